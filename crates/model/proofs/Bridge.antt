@@ -1,0 +1,81 @@
+-- What code that steps the levelsOf in place has to show: the bucket with one raisedBy at a 1 place, and its hasRoom.
+use mathlib.Core.Logic.{_↔_}
+use mathlib.Core.Path.{_≡_, refl, sym, ap, ap₂, _∙_, subst, subst₂}
+use mathlib.Core.Bool.{Bool, true, false, not}
+use mathlib.Core.List.{List, [], _∷_}
+use Prim.Native.Nat.{ℕ, zero, suc, _+_, _*_, _%_, _^_, _≤_, _<_}
+use native.Mathlib.Nat.{le-of-eq, one-mul, mul-one, mod-eq-of-lt, zero-add}
+use native.Mathlib.Omega.{arith}
+use lib.Dec.{T}
+use lib.ListN.{length, getD, set, length-set}
+use lib.Seq.{set-getD}
+use Rattle.model.specs.Lists.{sum}
+use Rattle.model.specs.Packed.{pack, unpack}
+use Rattle.model.specs.Shapes.{Row, counterBits, row, allRows}
+use Rattle.model.specs.Levels.{crowded}
+use Rattle.model.specs.Growing.{incremented, hasRoom}
+use Rattle.model.specs.Walls.{Bucket, Full}
+use Rattle.model.specs.Sound.{levelsOf, ownCounts, movedAt}
+use Rattle.model.specs.Calls.{fromLevels, holding, moveIn}
+use Rattle.model.proofs.Lists.{Below, getD-tab}
+use Rattle.model.proofs.Packing.{pack-raise, pack-unpack, unpack-pack, length-unpack}
+use Rattle.model.proofs.Coding.{Fits, Sound, read, total, total-encode}
+use Rattle.model.proofs.Crowding.{atLeast-sum, bucket-fits}
+use Rattle.model.proofs.Growth.{Wide, bump-encode, room-fits}
+use Rattle.model.proofs.Sums.{sum-set}
+use Rattle.model.proofs.Buckets.{unpack-bit, own-read, own-fits, own-coded, length-own}
+
+module _ (w : ℕ) (rs : List Row) (wide : Wide (allRows w rs)) (b : Bucket) (s : Sound 0 (allRows w rs) 64 (levelsOf rs b)) (a : ℕ) (la : a < 64) where
+  abbrev os : List ℕ
+  os = ownCounts w rs b
+
+  in-own : a < length os
+  in-own = subst (λ n. a < n) (sym (length-own w rs b)) la
+
+  -- the carry walk gives the levelsOf of the counts with one raisedBy at a 1
+  pub bump-hold : fromLevels w rs (incremented (allRows w rs) (levelsOf rs b) a) 0 0 ≡ holding w rs (set os a (getD os a 0 + 1))
+  unfolding holding
+  bump-hold = ap (λ ls. fromLevels w rs ls 0 0) (ap (λ ls. incremented (allRows w rs) ls a) (sym (own-coded w rs b s)) ∙ bump-encode (allRows w rs) os a wide in-own)
+
+  -- and it has room exactly where these are not crowded
+  pub room-crowded : sum os + 1 < 2 ^ counterBits w rs → T (hasRoom (allRows w rs) 64 (levelsOf rs b) a) ↔ T (not (crowded w rs (set os a (getD os a 0 + 1))))
+  room-crowded h =
+      let r : T (hasRoom (allRows w rs) 64 (levelsOf rs b) a) ↔ Fits (allRows w rs) (set os a (getD os a 0 + 1)) =
+      subst₂ (λ n ls. T (hasRoom (allRows w rs) n ls a) ↔ Fits (allRows w rs) (set os a (getD os a 0 + 1))) (length-own w rs b) (own-coded w rs b s) (room-fits (allRows w rs) os a wide (own-fits w rs b s) in-own) in
+      let l : length (set os a (getD os a 0 + 1)) ≡ 64 = length-set os a (getD os a 0 + 1) ∙ length-own w rs b in
+      let f = bucket-fits (row 64 w) rs (set os a (getD os a 0 + 1)) (le-of-eq l) in (
+        (λ t. f .0 (r .0 t) .0),
+        (λ t. r .1 (f .1 (t, atLeast-sum (2 ^ counterBits w rs) (set os a (getD os a 0 + 1)) (omega (arith, sum-set os a (getD os a 0 + 1) in-own))))),
+      )
+
+-- a place not yet moved: its flag is added; a place moved before: the flags stay
+pub flag-added : (f : Full) (a v : ℕ) → a < 64 → f .moved < 2 ^ 64 → movedAt f a ≡ 0 → moveIn f a v .moved ≡ f .moved + 2 ^ a
+unfolding moveIn
+flag-added f a v l h e =
+    let es : List ℕ = unpack 1 64 (f .moved) in
+    ap (λ n. pack 1 (set es a n)) (sym (zero-add 1) ∙ ap (λ n. n + 1) (sym (unpack-bit (f .moved) a l ∙ e)))
+    ∙ pack-raise 1 es a 1 (subst (λ n. a < n) (sym (length-unpack 1 64 (f .moved))) l)
+    ∙ ap₂ _+_ (pack-unpack 1 64 (f .moved) ∙ mod-eq-of-lt h) (one-mul (2 ^ (1 * a)) ∙ ap (λ n. 2 ^ n) (one-mul a))
+
+pub flag-stays : (f : Full) (a v : ℕ) → a < 64 → f .moved < 2 ^ 64 → movedAt f a ≡ 1 → moveIn f a v .moved ≡ f .moved
+unfolding moveIn
+flag-stays f a v l h e =
+    let es : List ℕ = unpack 1 64 (f .moved) in
+    ap (λ n. pack 1 (set es a n)) (sym (unpack-bit (f .moved) a l ∙ e)) ∙ ap (pack 1) (set-getD es a 0) ∙ pack-unpack 1 64 (f .moved) ∙ mod-eq-of-lt h
+
+-- ---- what code reads off a bucket
+
+module _ (w : ℕ) (rs : List Row) (b : Bucket) where
+  -- a count by the walk of the levelsOf, whose rank is the machine's count of ones
+  pub own-walk : (a : ℕ) → a < 64 → getD (ownCounts w rs b) a 0 ≡ read (allRows w rs) (levelsOf rs b) a
+  own-walk a l = ap (λ x. getD x a 0) (own-read w rs b) ∙ getD-tab 64 (read (allRows w rs) (levelsOf rs b)) a l
+
+  -- the sum of the counts by the sums of the levels' entries
+  pub own-total : Sound 0 (allRows w rs) 64 (levelsOf rs b) → total 0 (allRows w rs) 64 (levelsOf rs b) ≡ sum (ownCounts w rs b)
+  own-total s =
+      ap₂ (λ n ls. total 0 (allRows w rs) n ls) (sym (length-own w rs b)) (sym (own-coded w rs b s))
+      ∙ total-encode 0 (allRows w rs) (ownCounts w rs b) (own-fits w rs b s) ∙ mul-one (sum (ownCounts w rs b))
+
+-- the words of level 1 are those of its cells
+pub first-words : (ws : List ℕ) (w c : ℕ) → Below (2 ^ 64) ws → length ws ≡ w → pack 64 ws ≡ c → unpack 64 w c ≡ ws
+first-words ws w c h n e = ap₂ (unpack 64) (sym n) (sym e) ∙ unpack-pack 64 ws h

@@ -1,0 +1,213 @@
+-- Demand 2: on a wall that the check accepts, an accepted increment raises one count by one and no other, and lookup answers the count.
+use mathlib.Core.Logic.{_≢_, _↔_}
+use mathlib.Core.Path.{_≡_, refl, sym, ap, ap₂, _∙_, subst, subst₂}
+use mathlib.Core.Bool.{Bool, true, false, not, _&&_}
+use mathlib.Core.List.{List, [], _∷_, _++_, map}
+use Prim.Native.Nat.{ℕ, zero, suc, _+_, _-_, _*_, _/_, _%_, _^_, _≤_, _<_}
+use native.Mathlib.Nat.{le-refl, le-trans, not-suc-le-zero, mod-lt}
+use native.Mathlib.Omega.{arith}
+use lib.Dec.{T, leb, ltb, eqb, leb→le, le→leb, nleb→lt, eqb→eq, eqb-refl, lit<, T-not, not-T}
+use lib.Arith.{lt→nleb, lt-of-le-ne}
+use lib.ListN.{length, getD, set, length-append, length-map}
+use lib.Seq.{getD-set-same, getD-set-other}
+use Rattle.model.specs.Lists.{byMark, concat}
+use Rattle.model.specs.Shapes.{rowsOf}
+use Rattle.model.specs.Slots.{slot}
+use Rattle.model.specs.Walls.{Header, Wall, bucketsIn, flows, wallSize, bucketWords, fullWords, readHeader, good, flatten, parse, withTotals, bucketOf, placeOf}
+use Rattle.model.specs.Sound.{flag, bucketAt, countsAt, soundAt, count}
+use Rattle.model.specs.Calls.{Outcome, firstMet, noRoom, step, overflows, bucketRefusals, stepRefusals, raisedBy, lookup, increment, check}
+use Rattle.model.proofs.Tests.{every-at}
+use Rattle.model.proofs.Slots.{slot-inj}
+use Rattle.model.proofs.Tools.{by-eq}
+use Rattle.model.proofs.Pieces.{length-cat}
+use Rattle.model.proofs.Headers.{Good, Limits, of-good, bucket-lt}
+use Rattle.model.proofs.Parsing.{Shaped, Coded, coded-of, read-head, head-marked, parse-flatten, offset-fulls, sized-fulls}
+use Rattle.model.proofs.SoundWalls.{SoundWall, check-sound, of-sound}
+use Rattle.model.proofs.Steps.{Stepped, step-sound, length-countsAt}
+use Rattle.model.proofs.Refusals.{Clear, Named, first-clear, clear-first, first-skip, answer-no, answer-done}
+
+-- ---- the words of a sound wall are accepted
+
+length-flatten : (v : Wall) → Shaped v → length (flatten v) ≡ wallSize (v .header)
+unfolding flatten
+length-flatten v s =
+    let lb = offset-fulls v s in
+    let lf : length (concat (map fullWords (v .fulls))) ≡ v .header .full * 65 =
+    length-cat 65 (map fullWords (v .fulls)) (sized-fulls (v .fulls) (s .fulls)) ∙ ap (λ n. n * 65) (length-map (v .fulls) fullWords ∙ s .fulls-number) in
+    omega (arith, length-append (concat (map bucketWords (v .buckets))) (concat (map fullWords (v .fulls))))
+
+read-flatten : (v : Wall) → Coded (v .header) → readHeader (flatten v) ≡ v .header
+unfolding flatten
+read-flatten v c = read-head (v .header) (concat (map bucketWords (v .buckets)) ++ concat (map fullWords (v .fulls))) c
+
+pub good-flatten : (v : Wall) → Coded (v .header) → Shaped v → Limits (v .header) → Good (flatten v)
+unfolding flatten
+good-flatten v c s l =
+    let m = head-marked (v .header) (concat (map bucketWords (v .buckets)) ++ concat (map fullWords (v .fulls))) (c .head) in
+    let j : v .header .full < 65536 = c .fulls .0 in
+    let u : v .header .used < 65536 = c .fulls .1 .0 in
+    record {
+      long = omega arith;
+      marked = m .0;
+      version = m .1;
+      exact = length-flatten v s ∙ ap wallSize (sym (read-flatten v c));
+      limits = subst Limits (sym (read-flatten v c)) l;
+    }
+
+-- the rows are those of the shape bucketsIn
+abbrev pub Tabled : Header → Type 0
+Tabled h = h .rows ≡ rowsOf (h .shape)
+
+pub tabled-parse : (ws : List ℕ) → Tabled (parse ws .header)
+unfolding parse
+tabled-parse ws = refl
+
+pub reparsed : (v : Wall) → SoundWall v → Tabled (v .header) → parse (flatten v) ≡ v
+reparsed v s e = parse-flatten v (coded-of (v .header) (s .limits) e) (s .shaped)
+
+pub accepted-flatten : (v : Wall) → SoundWall v → Tabled (v .header) → check (flatten v) .number ≡ 0
+accepted-flatten v s e = check-sound (flatten v) .1 (good-flatten v (coded-of (v .header) (s .limits) e) (s .shaped) (s .limits), subst SoundWall (sym (reparsed v s e)) s)
+
+-- ---- what an increment asks
+
+module _ (v : Wall) (y : ℕ) (s : SoundWall v) where
+  abbrev i : ℕ
+  i = bucketOf (v .header) y
+
+  abbrev a : ℕ
+  a = placeOf (v .header) y
+
+  in-wall : i < bucketsIn (v .header)
+  in-wall = bucket-lt (v .header .bits) y (s .limits .bits-low)
+
+  in-bucket : a < 64
+  in-bucket = mod-lt (slot (v .header .bits) y) (lit< tt)
+
+  -- refusals 10 and 12 are not met for d more
+  pub record Free (d : ℕ) : Type 0 where
+    pub room : v .header .total + d ≤ v .header .limit
+    pub spare : flag (bucketAt v i) ≡ 0 → noRoom v i a (count v y + d) ≡ true → v .header .used < v .header .full
+
+  lt-of : (m n : ℕ) → m ≤ n → T (not (eqb m n)) → m < n
+  lt-of m n h t = lt-of-le-ne h (λ e. T-not (eqb m n) t (subst (λ x. T (eqb m x)) e (eqb-refl m)))
+
+  pub spare-of : (d : ℕ) → T (not (overflows v i a (count v y + d) && eqb (v .header .used) (v .header .full))) → flag (bucketAt v i) ≡ 0 → noRoom v i a (count v y + d) ≡ true → v .header .used < v .header .full
+  spare-of d c e t = lt-of (v .header .used) (v .header .full) (s .limits .spare-full) (subst₂ (λ m b. T (not (byMark m b false && eqb (v .header .used) (v .header .full)))) e t c)
+
+  pub free-of : Clear (stepRefusals v y) → Free 1
+  free-of c = record { room = omega (arith, lt-of (v .header .total) (v .header .limit) (s .limits .within) (c .0)); spare = spare-of 1 (c .1 .1 .0) }
+
+  -- the wall that an increment leaves
+  pub more-stepped : (d : ℕ) → 1 ≤ d → Free d → Stepped v i a d (raisedBy v y d)
+  unfolding count
+  more-stepped d p f = step-sound v s i a d in-wall in-bucket p (f .room) (f .spare)
+
+-- ---- the counts, by flow
+
+module _ (v v′ : Wall) (y d : ℕ) (t : Stepped v (bucketOf (v .header) y) (placeOf (v .header) y) d v′) (low : 6 ≤ v .header .bits) where
+  same-bits : v′ .header .bits ≡ v .header .bits
+  same-bits = ap (λ (h : Header). h .bits) (t .header)
+
+  reread : (z : ℕ) → count v′ z ≡ getD (countsAt v′ (bucketOf (v .header) z)) (placeOf (v .header) z) 0
+  unfolding count
+  reread z = ap (λ b. getD (countsAt v′ (slot b z / 64)) (slot b z % 64) 0) same-bits
+
+  pub count-here : count v′ y ≡ count v y + d
+  unfolding count
+  count-here =
+      reread y ∙ ap (λ l. getD l (placeOf (v .header) y) 0) (t .here)
+      ∙ getD-set-same (countsAt v (bucketOf (v .header) y)) (placeOf (v .header) y) (count v y + d) 0 (subst (λ n. placeOf (v .header) y < n) (sym (length-countsAt v (bucketOf (v .header) y))) (mod-lt (slot (v .header .bits) y) (lit< tt)))
+
+  pub count-there : (z : ℕ) → y < flows (v .header) → z < flows (v .header) → z ≢ y → count v′ z ≡ count v z
+  unfolding count
+  count-there z hy hz n = reread z ∙ by-eq (bucketOf (v .header) z) (bucketOf (v .header) y)
+      (λ e. ap (λ k. getD (countsAt v′ k) (placeOf (v .header) z) 0) e ∙ ap (λ l. getD l (placeOf (v .header) z) 0) (t .here)
+      ∙ getD-set-other (countsAt v (bucketOf (v .header) y)) (placeOf (v .header) y) (placeOf (v .header) z) (count v y + d) 0
+      (λ p. n (slot-inj (v .header .bits) z y hz hy (omega arith)))
+      ∙ sym (ap (λ k. getD (countsAt v k) (placeOf (v .header) z) 0) e))
+      (λ e. ap (λ l. getD l (placeOf (v .header) z) 0) (t .there (bucketOf (v .header) z) (bucket-lt (v .header .bits) z low) e))
+
+-- ---- demand 2
+
+abbrev pub Accepted : List ℕ → Type 0
+Accepted ws = check ws .number ≡ 0
+
+-- what an accepted increment of flow y by d leaves
+pub record Raised (ws : List ℕ) (y d : ℕ) (r : Outcome) : Type 0 where
+  pub accepted : Accepted (r .words)
+  pub value : r .value ≡ count (parse ws) y + d
+  pub header : parse (r .words) .header ≡ withTotals (parse ws .header) (parse ws .header .total + d) (parse (r .words) .header .used)
+  pub here : count (parse (r .words)) y ≡ count (parse ws) y + d
+  pub there : (z : ℕ) → z < flows (parse ws .header) → z ≢ y → count (parse (r .words)) z ≡ count (parse ws) z
+
+named : (ws : List ℕ) (y : ℕ) → Named (bucketRefusals ws y ++ stepRefusals (parse ws) y)
+named ws y = (lit< tt, (lit< tt, (lit< tt, (lit< tt, (lit< tt, (lit< tt, tt))))))
+
+-- the walls that follow one another
+pub record Follows (ws : List ℕ) (y : ℕ) (r : Outcome) : Type 0 where
+  pub flow : y < flows (parse ws .header)
+  pub free : (s : SoundWall (parse ws)) → Free (parse ws) y s 1
+  pub same : r ≡ record { number = 0; value = count (parse ws) y + 1; words = flatten (raisedBy (parse ws) y 1) }
+
+pub follows : (ws : List ℕ) (y : ℕ) → increment ws y .number ≡ 0 → Follows ws y (increment ws y)
+unfolding increment
+follows ws y e =
+    let n : ℕ = firstMet (bucketRefusals ws y ++ stepRefusals (parse ws) y) in
+    let z : n ≡ 0 = sym (answer-no (count (parse ws) y + 1) (flatten (raisedBy (parse ws) y 1)) ws n) ∙ e in
+    let c = clear-first (bucketRefusals ws y ++ stepRefusals (parse ws) y) (named ws y) z in
+    record {
+      flow = nleb→lt (flows (parse ws .header)) y (c .1 .0);
+      free = λ s. free-of (parse ws) y s (c .1 .1 .1);
+      same = answer-done (count (parse ws) y + 1) (flatten (raisedBy (parse ws) y 1)) ws n z;
+    }
+
+pub raises-by : (ws : List ℕ) (y d : ℕ) (s : SoundWall (parse ws)) → 1 ≤ d → y < flows (parse ws .header) → Free (parse ws) y s d
+    → Raised ws y d (record { number = 0; value = count (parse ws) y + d; words = flatten (raisedBy (parse ws) y d) })
+raises-by ws y d s p l f =
+    let v : Wall = raisedBy (parse ws) y d in
+    let t = more-stepped (parse ws) y s d p f in
+    let b : Tabled (v .header) = subst Tabled (sym (t .header)) (tabled-parse ws) in
+    let q : parse (flatten v) ≡ v = reparsed v (t .sound) b in
+    record {
+      accepted = accepted-flatten v (t .sound) b;
+      value = refl;
+      header = ap (λ (v : Wall). v .header) q ∙ t .header ∙ ap (λ (v : Wall). withTotals (parse ws .header) (parse ws .header .total + d) (v .header .used)) (sym q);
+      here = ap (λ v. count v y) q ∙ count-here (parse ws) v y d t (s .limits .bits-low);
+      there = λ z h n. ap (λ v. count v z) q ∙ count-there (parse ws) v y d t (s .limits .bits-low) z l h n;
+    }
+
+pub increment-raises : (ws : List ℕ) (y : ℕ) → Accepted ws → increment ws y .number ≡ 0 → Raised ws y 1 (increment ws y)
+increment-raises ws y ok e =
+    let f = follows ws y e in
+    let s = check-sound ws .0 ok .1 in
+    subst (Raised ws y 1) (sym (f .same)) (raises-by ws y 1 s (le-refl 1) (f .flow) (f .free s))
+
+-- on an accepted wall none of 7, 8 and 9 is met for a flow of the wall
+pub own-clear : (ws : List ℕ) (y : ℕ) → Accepted ws → y < flows (parse ws .header) → Clear (bucketRefusals ws y)
+own-clear ws y ok h =
+    let a = check-sound ws .0 ok in (
+      not-not (good ws) (of-good ws (a .0)),
+      (
+        lt→nleb (flows (parse ws .header)) y h,
+        (
+          not-not (soundAt (parse ws) (bucketOf (parse ws .header) y))
+              (every-at (bucketsIn (parse ws .header)) (soundAt (parse ws)) (of-sound (parse ws) (a .1) .0) (bucketOf (parse ws .header) y) (bucket-lt (parse ws .header .bits) y (a .1 .limits .bits-low))),
+          tt,
+        ),
+      ),
+    )
+  where
+    not-not : (b : Bool) → T b → T (not (not b))
+    not-not true t = tt
+    not-not false t = t
+
+pub lookup-count : (ws : List ℕ) (y : ℕ) → Accepted ws → y < flows (parse ws .header) → lookup ws y ≡ record { number = 0; value = count (parse ws) y; words = ws }
+unfolding lookup
+lookup-count ws y ok h = answer-done (count (parse ws) y) ws ws (firstMet (bucketRefusals ws y)) (first-clear (bucketRefusals ws y) (own-clear ws y ok h))
+
+-- and the bucketsIn is that of the step alone
+pub increment-no : (ws : List ℕ) (y : ℕ) → Accepted ws → y < flows (parse ws .header) → increment ws y .number ≡ firstMet (stepRefusals (parse ws) y)
+unfolding increment
+increment-no ws y ok h =
+    answer-no (count (parse ws) y + 1) (flatten (raisedBy (parse ws) y 1)) ws (firstMet (bucketRefusals ws y ++ stepRefusals (parse ws) y))
+    ∙ first-skip (bucketRefusals ws y) (stepRefusals (parse ws) y) (own-clear ws y ok h)

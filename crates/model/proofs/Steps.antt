@@ -1,0 +1,421 @@
+-- One count of a sound wall rises by d, at least 1: the wall is sound again, and no other count changes.
+use mathlib.Core.Logic.{_≢_}
+use mathlib.Core.Path.{_≡_, refl, sym, ap, ap₂, _∙_, subst, subst₂}
+use mathlib.Core.Bool.{Bool, true, false, not}
+use mathlib.Core.List.{List, [], _∷_, map}
+use Prim.Native.Nat.{ℕ, zero, suc, _+_, _*_, _^_, _≤_, _<_, zero-le}
+use native.Mathlib.Nat.{le-trans, le-of-eq, le-refl, not-suc-le-zero, zero-lt-suc, add-zero}
+use native.Mathlib.Omega.{arith}
+use lib.Dec.{T, leb, ltb, eqb, eqb→eq, ltb→lt, lit<, lit≤}
+use lib.Pow.{pow-mono}
+use lib.ListN.{length, getD, set, length-set, length-replicate, length-map}
+use lib.Seq.{getD-set-same, getD-set-other}
+use Rattle.model.specs.Lists.{sum, oneIf, byMark, choose}
+use Rattle.model.specs.Shapes.{Row, row, allRows}
+use Rattle.model.specs.Levels.{onward, Level, encode}
+use Rattle.model.specs.Walls.{Bucket, Full, Wall, bucketsIn, countEnd, emptyFull, emptyBucket, withTotals, wall}
+use Rattle.model.specs.Sound.{flag, fullNumber, ownCounts, fullOf, bucketCounts, bucketAt, ownAt, fullFor, countsAt, holdsNumber, holders, allCounts, isEmptyFull}
+use Rattle.model.specs.Calls.{noRoom, step, holding, overflowed, moveIn}
+use Rattle.model.proofs.Packing.{length-unpack}
+use Rattle.model.proofs.Coding.{Fits}
+use Rattle.model.proofs.Crowding.{atLeast-sum, bucket-fits, T-true}
+use Rattle.model.proofs.Tools.{each-set, each-at, by-eq}
+use Rattle.model.proofs.Headers.{Fine, eq-eqb}
+use Rattle.model.proofs.Parsing.{Shaped, Lengths}
+use Rattle.model.proofs.Sums.{tab-ext, sum-set, sum-change, sum-two, sum-zero}
+use Rattle.model.proofs.Buckets.{SoundB, sound-more, sound-hold, sound-over, sound-moved, length-own, length-counts, counts-none, counts-moved, own-hold, hold-flag, over-flag, over-number, over-own, length-encode, moved-length}
+use Rattle.model.proofs.SoundWalls.{SoundWall}
+
+-- what an increment by d of place a of bucket i makes of the wall x
+pub record Stepped (x : Wall) (i a d : ℕ) (y : Wall) : Type 0 where
+  pub sound : SoundWall y
+  pub header : y .header ≡ withTotals (x .header) (x .header .total + d) (y .header .used)
+  pub here : countsAt y i ≡ set (countsAt x i) a (getD (countsAt x i) a 0 + d)
+  pub there : (k : ℕ) → k < bucketsIn (x .header) → k ≢ i → countsAt y k ≡ countsAt x k
+  pub flag-here : flag (bucketAt y i) ≡ byMark (flag (bucketAt x i)) (oneIf (noRoom x i a (getD (countsAt x i) a 0 + d))) (flag (bucketAt x i))
+  pub flag-there : (k : ℕ) → k < bucketsIn (x .header) → k ≢ i → flag (bucketAt y k) ≡ flag (bucketAt x k)
+
+pub length-countsAt : (x : Wall) (k : ℕ) → length (countsAt x k) ≡ 64
+unfolding countsAt
+length-countsAt x k = length-counts (ownAt x k) (fullFor x k)
+
+-- ---- flags and numbers
+
+pub number-lt : {w : ℕ} {rs : List Row} {t u : ℕ} {b : Bucket} {f : Full} → SoundB w rs t u b f → 0 < flag b → fullNumber b < u
+number-lt {u = u} {b = b} s h = go (flag b) h (s .number)
+  where
+    go : (m : ℕ) → 0 < m → T (byMark m (eqb (fullNumber b) 0) (ltb (fullNumber b) u)) → fullNumber b < u
+    go zero h t = absurd (not-suc-le-zero h)
+    go (suc m) h t = ltb→lt (fullNumber b) u t
+
+fullOf-set : (fs : List Full) (q : ℕ) (f : Full) (b : Bucket) → (0 < flag b → fullNumber b ≢ q) → fullOf (set fs q f) b ≡ fullOf fs b
+fullOf-set fs q f b z = go (flag b) z
+  where
+    go : (m : ℕ) → (0 < m → fullNumber b ≢ q) → byMark m emptyFull (getD (set fs q f) (fullNumber b) emptyFull) ≡ byMark m emptyFull (getD fs (fullNumber b) emptyFull)
+    go zero z = refl
+    go (suc m) z = getD-set-other fs q (fullNumber b) f emptyFull (z (zero-lt-suc m))
+
+pub eqb-false : (m n : ℕ) → m ≢ n → eqb m n ≡ false
+eqb-false m n z = go (eqb m n) refl
+  where
+    go : (b : Bool) → eqb m n ≡ b → b ≡ false
+    go true e = absurd (z (eqb→eq m n (rw e tt)))
+    go false e = refl
+
+pub holds-none : (q : ℕ) (b : Bucket) → (0 < flag b → fullNumber b ≢ q) → holdsNumber q b ≡ 0
+holds-none q b z = go (flag b) z
+  where
+    go : (m : ℕ) → (0 < m → fullNumber b ≢ q) → byMark m 0 (oneIf (eqb (fullNumber b) q)) ≡ 0
+    go zero z = refl
+    go (suc m) z = ap oneIf (eqb-false (fullNumber b) q (z (zero-lt-suc m)))
+
+pub holds-one : (q : ℕ) (b : Bucket) → 0 < flag b → fullNumber b ≡ q → holdsNumber q b ≡ 1
+holds-one q b h e = go (flag b) h
+  where
+    go : (m : ℕ) → 0 < m → byMark m 0 (oneIf (eqb (fullNumber b) q)) ≡ 1
+    go zero h = absurd (not-suc-le-zero h)
+    go (suc m) h = ap oneIf (sym (T-true (eqb (fullNumber b) q) (eq-eqb e)))
+
+pub hold-lengths : (w : ℕ) (rs : List Row) (vs : List ℕ) → Lengths w (length rs) (holding w rs vs)
+unfolding holding encode
+hold-lengths w rs vs = record { first = length-unpack 64 w _; uppers = length-map (encode rs (onward w vs)) (λ (x : Level). x .cells) ∙ length-encode rs (onward w vs) }
+
+pub over-lengths : (w n : ℕ) (b : Bucket) (q : ℕ) → Lengths w n b → Lengths w n (overflowed b q)
+unfolding overflowed
+over-lengths w n b q l = record { first = l .first; uppers = l .uppers }
+
+pub empty-lengths : (w : ℕ) (rs : List Row) → Lengths w (length rs) (emptyBucket w rs)
+empty-lengths w rs = record { first = length-replicate w 0; uppers = length-replicate (length rs) 0 }
+
+pub length-moved : (f : Full) (a v : ℕ) → length (f .counts) ≡ 64 → length (moveIn f a v .counts) ≡ 64
+unfolding moveIn
+length-moved f a v n = length-set (f .counts) a v ∙ n
+
+-- the wall with new buckets, full-size buckets and U
+module _ (x : Wall) (s : SoundWall x) (i a d : ℕ) (li : i < bucketsIn (x .header)) (la : a < 64) (pos : 1 ≤ d) (room : x .header .total + d ≤ x .header .limit) where
+  abbrev next : ℕ → List Bucket → List Full → Wall
+  next u bs fs = wall (withTotals (x .header) (x .header .total + d) u) bs fs
+
+  abbrev c : ℕ
+  c = getD (countsAt x i) a 0
+
+  -- bucket i is as it should be, and the others and their full-size buckets stay
+  record Local (u : ℕ) (bs : List Bucket) (fs : List Full) : Type 0 where
+    shaped : Shaped (next u bs fs)
+    most : x .header .used ≤ u
+    spare : u ≤ x .header .full
+    buckets : (k : ℕ) → k < bucketsIn (x .header) → k ≢ i → bucketAt (next u bs fs) k ≡ bucketAt x k
+    fulls : (k : ℕ) → k < bucketsIn (x .header) → k ≢ i → fullOf fs (bucketAt x k) ≡ fullFor x k
+    sound : SoundB (x .header .width) (x .header .rows) (x .header .total + d) u (bucketAt (next u bs fs) i) (fullFor (next u bs fs) i)
+    counts : countsAt (next u bs fs) i ≡ set (countsAt x i) a (c + d)
+    held : (q : ℕ) → q < u → holders (next u bs fs) q ≡ 1
+    zeros : (q : ℕ) → q < x .header .full → u ≤ q → T (isEmptyFull (getD fs q emptyFull))
+    flagged : flag (bucketAt (next u bs fs) i) ≡ byMark (flag (bucketAt x i)) (oneIf (noRoom x i a (c + d))) (flag (bucketAt x i))
+
+  -- their sum rises by d
+  sum-here : sum (set (countsAt x i) a (c + d)) ≡ sum (countsAt x i) + d
+  sum-here = omega (arith, sum-set (countsAt x i) a (c + d) (rw length-countsAt la))
+
+  module _ (u : ℕ) (bs : List Bucket) (fs : List Full) (l : Local u bs fs) where
+    other : (k : ℕ) → k < bucketsIn (x .header) → k ≢ i → countsAt (next u bs fs) k ≡ countsAt x k
+    unfolding countsAt
+    other k h z =
+        ap (λ b. bucketCounts (ownCounts (x .header .width) (x .header .rows) b) (fullOf fs b)) (l .buckets k h z)
+        ∙ ap (bucketCounts (ownAt x k)) (l .fulls k h z)
+
+    sums : allCounts (next u bs fs) ≡ x .header .total + d
+    unfolding allCounts
+    sums = omega (
+      arith,
+      sum-change (bucketsIn (x .header)) (λ k. sum (countsAt x k)) (λ k. sum (countsAt (next u bs fs) k)) i li (λ k h z. ap sum (other k h z)),
+      ap sum (l .counts) ∙ sum-here,
+      s .sums,
+    )
+
+    local : Stepped x i a d (next u bs fs)
+    local = record {
+      sound = record {
+        shaped = l .shaped;
+        limits = record {
+          fine = s .limits .fine;
+          shape-low = s .limits .shape-low;
+          shape-high = s .limits .shape-high;
+          width-low = s .limits .width-low;
+          width-high = s .limits .width-high;
+          bits-low = s .limits .bits-low;
+          bits-high = s .limits .bits-high;
+          limit-low = s .limits .limit-low;
+          limit-high = s .limits .limit-high;
+          full-most = s .limits .full-most;
+          full-number = s .limits .full-number;
+          within = omega arith;
+          spare-full = l .spare;
+          spare-none = s .limits .spare-none;
+        };
+        each = λ k h. by-eq k i
+            (λ e. subst (λ n. SoundB (x .header .width) (x .header .rows) (x .header .total + d) u (bucketAt (next u bs fs) n) (fullFor (next u bs fs) n)) (sym e) (l .sound))
+            (λ z. subst₂ (λ b f. SoundB (x .header .width) (x .header .rows) (x .header .total + d) u b f) (sym (l .buckets k h z)) (sym (ap (fullOf fs) (l .buckets k h z) ∙ l .fulls k h z))
+            (sound-more (x .header .total + d) u (omega arith) (l .most) (s .each k h)));
+        sums = sums;
+        held = l .held;
+        zeros = l .zeros;
+      };
+      header = refl;
+      here = l .counts;
+      there = other;
+      flag-here = l .flagged;
+      flag-there = λ k h z. ap flag (l .buckets k h z);
+    }
+
+  -- ---- the three cases
+
+  abbrev b : Bucket
+  b = bucketAt x i
+
+  abbrev w : ℕ
+  w = x .header .width
+
+  abbrev rs : List Row
+  rs = x .header .rows
+
+  abbrev os : List ℕ
+  os = ownAt x i
+
+  abbrev vs : List ℕ
+  vs = set os a (c + d)
+
+  in-buckets : i < length (x .buckets)
+  in-buckets = rw (s .shaped .buckets-number) li
+
+  at-here : (b′ : Bucket) → getD (set (x .buckets) i b′) i (emptyBucket w rs) ≡ b′
+  at-here b′ = getD-set-same (x .buckets) i b′ (emptyBucket w rs) in-buckets
+
+  at-other : (b′ : Bucket) (k : ℕ) → k ≢ i → getD (set (x .buckets) i b′) k (emptyBucket w rs) ≡ bucketAt x k
+  at-other b′ k z = getD-set-other (x .buckets) i k b′ (emptyBucket w rs) z
+
+  most-here : sum (set (countsAt x i) a (c + d)) ≤ x .header .total + d
+  unfolding countsAt
+  most-here = omega (arith, sum-here, s .each i li .most)
+
+  module _ (e : flag b ≡ 0) where
+    none : fullFor x i ≡ emptyFull
+    none = ap (λ m. byMark m emptyFull (getD (x .fulls) (fullNumber b) emptyFull)) e
+
+    counts-own : countsAt x i ≡ os
+    unfolding countsAt
+    counts-own = ap (bucketCounts os) none ∙ counts-none os (length-own w rs b)
+
+    sum-vs : sum vs ≤ x .header .total + d
+    sum-vs = subst (λ l. sum (set l a (c + d)) ≤ x .header .total + d) counts-own most-here
+
+    length-vs : length vs ≡ 64
+    length-vs = length-set os a (c + d) ∙ length-own w rs b
+
+    no-flag : {A : Type 0} (p q : A) → byMark (flag b) p q ≡ p
+    no-flag p q = ap (λ m. byMark m p q) e
+
+    no-number : 0 < flag b → ⊥
+    no-number h = omega (arith, e)
+
+    module _ (t : noRoom x i a (c + d) ≡ false) where
+      fits-vs : Fits (allRows w rs) vs
+      unfolding noRoom
+      fits-vs = bucket-fits (row 64 w) rs vs (le-of-eq length-vs) .1 (subst (λ z. T (not z)) (sym t) tt, atLeast-sum (countEnd (x .header)) vs (omega (arith, sum-vs, s .limits .limit-high)))
+
+      abbrev kept : Bucket
+      kept = holding w rs vs
+
+      fine : Fine rs
+      fine = s .limits .fine
+
+      kept-flag : flag kept ≡ 0
+      kept-flag = hold-flag w rs fine vs fits-vs length-vs
+
+      kept-none : fullOf (x .fulls) kept ≡ emptyFull
+      kept-none = ap (λ m. byMark m emptyFull (getD (x .fulls) (fullNumber kept) emptyFull)) kept-flag
+
+      held-counts : countsAt (next (x .header .used) (set (x .buckets) i kept) (x .fulls)) i ≡ set (countsAt x i) a (c + d)
+      unfolding countsAt
+      held-counts =
+          ap (λ b. bucketCounts (ownCounts w rs b) (fullOf (x .fulls) b)) (at-here kept) ∙ ap (bucketCounts (ownCounts w rs kept)) kept-none
+          ∙ counts-none (ownCounts w rs kept) (length-own w rs kept) ∙ own-hold w rs fine vs fits-vs length-vs ∙ ap (λ l. set l a (c + d)) (sym counts-own)
+
+      held-holders : (q : ℕ) → holders (next (x .header .used) (set (x .buckets) i kept) (x .fulls)) q ≡ holders x q
+      unfolding holders
+      held-holders q = ap sum (tab-ext (bucketsIn (x .header)) (λ k. holdsNumber q (getD (set (x .buckets) i kept) k (emptyBucket w rs))) (λ k. holdsNumber q (bucketAt x k)) (λ k h.
+          by-eq k i
+          (λ z. ap (λ n. holdsNumber q (getD (set (x .buckets) i kept) n (emptyBucket w rs))) z ∙ ap (holdsNumber q) (at-here kept) ∙ holds-none q kept (λ y. absurd (omega (arith, kept-flag)))
+          ∙ sym (ap (λ n. holdsNumber q (bucketAt x n)) z ∙ holds-none q b (λ y. absurd (no-number y))))
+          (λ z. ap (holdsNumber q) (at-other kept k z))))
+
+      held-local : Local (x .header .used) (set (x .buckets) i kept) (x .fulls)
+      held-local = record {
+        shaped = record {
+          buckets-number = length-set (x .buckets) i kept ∙ s .shaped .buckets-number;
+          fulls-number = s .shaped .fulls-number;
+          buckets = each-set (Lengths w (length rs)) (x .buckets) i kept (s .shaped .buckets) (hold-lengths w rs vs);
+          fulls = s .shaped .fulls;
+        };
+        most = le-refl (x .header .used);
+        spare = s .limits .spare-full;
+        buckets = λ k h z. at-other kept k z;
+        fulls = λ k h z. refl;
+        sound = subst₂ (λ b f. SoundB w rs (x .header .total + d) (x .header .used) b f) (sym (at-here kept)) (sym (ap (fullOf (x .fulls)) (at-here kept) ∙ kept-none))
+            (sound-hold w rs fine vs fits-vs length-vs (x .header .total + d) (x .header .used) sum-vs);
+        counts = held-counts;
+        held = λ q h. held-holders q ∙ s .held q h;
+        zeros = s .zeros;
+        flagged = ap flag (at-here kept) ∙ kept-flag ∙ sym (no-flag (oneIf (noRoom x i a (c + d))) (flag b) ∙ ap oneIf t);
+      }
+
+    module _ (t : noRoom x i a (c + d) ≡ true) (free : x .header .used < x .header .full) where
+      abbrev u : ℕ
+      u = x .header .used
+
+      abbrev moved : Full
+      moved = moveIn emptyFull a (c + d)
+
+      abbrev over : Bucket
+      over = overflowed b u
+
+      abbrev bs : List Bucket
+      bs = set (x .buckets) i over
+
+      abbrev fs : List Full
+      fs = set (x .fulls) u moved
+
+      len0 : length (emptyFull .counts) ≡ 64
+      len0 = length-replicate {A = ℕ} 64 0
+
+      over-full : fullOf fs over ≡ moved
+      over-full = ap₂ (λ m n. byMark m emptyFull (getD fs n emptyFull)) (over-flag b u) (over-number b u) ∙ getD-set-same (x .fulls) u moved emptyFull (rw (s .shaped .fulls-number) free)
+
+      others : (k : ℕ) → k < bucketsIn (x .header) → 0 < flag (bucketAt x k) → fullNumber (bucketAt x k) ≢ u
+      others k h p z = omega (arith, number-lt (s .each k h) p)
+
+      over-counts : countsAt (next (u + 1) bs fs) i ≡ set (countsAt x i) a (c + d)
+      unfolding countsAt
+      over-counts =
+          ap (λ b. bucketCounts (ownCounts w rs b) (fullOf fs b)) (at-here over) ∙ ap₂ bucketCounts (over-own b u w rs) over-full
+          ∙ counts-moved emptyFull a (c + d) la len0 os ∙ ap (λ f. set (bucketCounts os f) a (c + d)) (sym none)
+
+      number-over : (q : ℕ) → holders (next (u + 1) bs fs) q ≡ holders x q + holdsNumber q over
+      unfolding holders
+      number-over q = omega (
+        arith,
+        sum-change (bucketsIn (x .header)) (λ k. holdsNumber q (bucketAt x k)) (λ k. holdsNumber q (getD bs k (emptyBucket w rs))) i li (λ k h z. ap (holdsNumber q) (at-other over k z)),
+        holds-none q b (λ y. absurd (no-number y)),
+        ap (holdsNumber q) (at-here over),
+      )
+
+      none-yet : holders x u ≡ 0
+      unfolding holders
+      none-yet = sum-zero (bucketsIn (x .header)) (λ k. holdsNumber u (bucketAt x k)) (λ k h. holds-none u (bucketAt x k) (others k h))
+
+      over-held : (q : ℕ) → q < u + 1 → holders (next (u + 1) bs fs) q ≡ 1
+      over-held q h = by-eq q u
+          (λ z. subst (λ n. holders (next (u + 1) bs fs) n ≡ 1) (sym z) (number-over u ∙ ap₂ _+_ none-yet (holds-one u over (omega (arith, over-flag b u)) (over-number b u))))
+          (λ z. number-over q ∙ ap₂ _+_ (s .held q (omega arith)) (holds-none q over (λ p y. z (sym y ∙ over-number b u))))
+
+      own-below : getD os a 0 < c + d
+      own-below = omega (arith, ap (λ l. getD l a 0) counts-own)
+
+      over-local : Local (u + 1) bs fs
+      over-local = record {
+        shaped = record {
+          buckets-number = length-set (x .buckets) i over ∙ s .shaped .buckets-number;
+          fulls-number = length-set (x .fulls) u moved ∙ s .shaped .fulls-number;
+          buckets = each-set (Lengths w (length rs)) (x .buckets) i over (s .shaped .buckets)
+              (over-lengths w (length rs) b u (each-at (Lengths w (length rs)) (x .buckets) i (emptyBucket w rs) (s .shaped .buckets) (empty-lengths w rs)));
+          fulls = each-set (λ (f : Full). length (f .counts) ≡ 64) (x .fulls) u moved (s .shaped .fulls) (moved-length emptyFull a (c + d) la len0);
+        };
+        most = omega arith;
+        spare = omega arith;
+        buckets = λ k h z. at-other over k z;
+        fulls = λ k h z. fullOf-set (x .fulls) u moved (bucketAt x k) (others k h);
+        sound = subst₂ (λ b f. SoundB w rs (x .header .total + d) (u + 1) b f) (sym (at-here over)) (sym (ap (fullOf fs) (at-here over) ∙ over-full))
+            (sound-over w rs (x .header .total) u (x .header .total + d) b (subst (SoundB w rs (x .header .total) u b) none (s .each i li)) a (c + d) la own-below sum-vs);
+        counts = over-counts;
+        held = over-held;
+        zeros = λ q h k. subst (λ f. T (isEmptyFull f)) (sym (getD-set-other (x .fulls) u q moved emptyFull (λ z. omega arith))) (s .zeros q h (omega arith));
+        flagged = ap flag (at-here over) ∙ over-flag b u ∙ sym (no-flag (oneIf (noRoom x i a (c + d))) (flag b) ∙ ap oneIf t);
+      }
+
+  module _ (m : ℕ) (e : flag b ≡ suc m) where
+    abbrev n : ℕ
+    n = fullNumber b
+
+    abbrev f : Full
+    f = fullFor x i
+
+    abbrev raised : Full
+    raised = moveIn f a (c + d)
+
+    abbrev fs′ : List Full
+    fs′ = set (x .fulls) n raised
+
+    n-lt : n < x .header .used
+    n-lt = number-lt (s .each i li) (omega (arith, e))
+
+    len-f : length (f .counts) ≡ 64
+    len-f = subst (λ k. length (byMark k emptyFull (getD (x .fulls) n emptyFull) .counts) ≡ 64) (sym e)
+        (each-at (λ (f : Full). length (f .counts) ≡ 64) (x .fulls) n emptyFull (s .shaped .fulls) (length-replicate {A = ℕ} 64 0))
+
+    raised-full : fullOf fs′ b ≡ raised
+    raised-full = ap (λ k. byMark k emptyFull (getD fs′ n emptyFull)) e ∙ getD-set-same (x .fulls) n raised emptyFull (rw (s .shaped .fulls-number) (omega (arith, n-lt, s .limits .spare-full)))
+
+    apart : (k : ℕ) → k < bucketsIn (x .header) → k ≢ i → 0 < flag (bucketAt x k) → fullNumber (bucketAt x k) ≢ n
+    unfolding holders
+    apart k h z p y = omega (
+      arith,
+      sum-two (bucketsIn (x .header)) (λ j. holdsNumber n (bucketAt x j)) k i h li z,
+      s .held n n-lt,
+      holds-one n (bucketAt x k) p y,
+      holds-one n b (omega (arith, e)) refl,
+    )
+
+    raised-counts : countsAt (next (x .header .used) (x .buckets) fs′) i ≡ set (countsAt x i) a (c + d)
+    unfolding countsAt
+    raised-counts = ap (bucketCounts os) raised-full ∙ counts-moved f a (c + d) la len-f os
+
+    same-holders : (q : ℕ) → holders (next (x .header .used) (x .buckets) fs′) q ≡ holders x q
+    unfolding holders
+    same-holders q = refl
+
+    raised-sound : SoundB w rs (x .header .total + d) (x .header .used) b raised
+    unfolding countsAt
+    raised-sound = sound-moved w rs (x .header .total) (x .header .used) (x .header .total + d) b f (s .each i li) a (c + d) la len-f (omega arith) most-here
+
+    raised-local : Local (x .header .used) (x .buckets) fs′
+    raised-local = record {
+      shaped = record {
+        buckets-number = s .shaped .buckets-number;
+        fulls-number = length-set (x .fulls) n raised ∙ s .shaped .fulls-number;
+        buckets = s .shaped .buckets;
+        fulls = each-set (λ (f : Full). length (f .counts) ≡ 64) (x .fulls) n raised (s .shaped .fulls) (moved-length f a (c + d) la len-f);
+      };
+      most = le-refl (x .header .used);
+      spare = s .limits .spare-full;
+      buckets = λ k h z. refl;
+      fulls = λ k h z. fullOf-set (x .fulls) n raised (bucketAt x k) (apart k h z);
+      sound = subst (SoundB w rs (x .header .total + d) (x .header .used) b) (sym raised-full) raised-sound;
+      counts = raised-counts;
+      held = λ q h. same-holders q ∙ s .held q h;
+      zeros = λ q h k. subst (λ f. T (isEmptyFull f)) (sym (getD-set-other (x .fulls) n q raised emptyFull (λ z. omega (arith, n-lt)))) (s .zeros q h k);
+      flagged = sym (ap (λ k. byMark k (oneIf (noRoom x i a (c + d))) (flag b)) e);
+    }
+
+  -- ---- together: where the bucket need not overflow, or a full-size bucket is left
+
+  pub step-sound : (flag b ≡ 0 → noRoom x i a (c + d) ≡ true → x .header .used < x .header .full) → Stepped x i a d (step x i a (c + d) (x .header .total + d))
+  unfolding step
+  step-sound free = go (flag b) refl (noRoom x i a (c + d)) refl
+    where
+      go : (m : ℕ) → flag b ≡ m → (t : Bool) → noRoom x i a (c + d) ≡ t → Stepped x i a d (byMark m
+          (choose t
+          (next (x .header .used + 1) (set (x .buckets) i (overflowed b (x .header .used))) (set (x .fulls) (x .header .used) (moveIn emptyFull a (c + d))))
+          (next (x .header .used) (set (x .buckets) i (holding w rs vs)) (x .fulls)))
+          (next (x .header .used) (x .buckets) (set (x .fulls) (fullNumber b) (moveIn (fullFor x i) a (c + d)))))
+      go zero e true t = local (x .header .used + 1) _ _ (over-local e t (free e t))
+      go zero e false t = local (x .header .used) _ _ (held-local e t)
+      go (suc m) e t z = local (x .header .used) _ _ (raised-local m e)

@@ -1,0 +1,57 @@
+-- Lists by their rule and sums of them, when the rule changes at one place.
+use mathlib.Core.Logic.{_≢_}
+use mathlib.Core.Path.{_≡_, refl, sym, ap, ap₂, _∙_}
+use mathlib.Core.List.{List, [], _∷_}
+use Prim.Native.Nat.{ℕ, zero, suc, _+_, _≤_, _<_, suc-le-suc, zero-le}
+use native.Mathlib.Nat.{le-of-suc-le-suc, not-suc-le-zero, zero-lt-suc, le-trans}
+use native.Mathlib.Omega.{arith}
+use lib.ListN.{length, getD, set}
+use lib.Seq.{ext-getD}
+use Rattle.model.specs.Lists.{sum, tabulate}
+use Rattle.model.proofs.Lists.{length-tab, getD-tab}
+
+pub tab-ext : (n : ℕ) (f g : ℕ → ℕ) → ((k : ℕ) → k < n → f k ≡ g k) → tabulate n f ≡ tabulate n g
+tab-ext zero f g h = refl
+tab-ext (suc n) f g h = ap₂ _∷_ (h 0 (zero-lt-suc n)) (tab-ext n (λ i. f (suc i)) (λ i. g (suc i)) (λ k l. h (suc k) (suc-le-suc l)))
+
+pub tab-set : (n : ℕ) (f g : ℕ → ℕ) (a v : ℕ) → ((k : ℕ) → k < n → k ≢ a → g k ≡ f k) → (a < n → g a ≡ v) → tabulate n g ≡ set (tabulate n f) a v
+tab-set zero f g a v h e = refl
+tab-set (suc n) f g zero v h e = ap₂ _∷_ (e (zero-lt-suc n)) (tab-ext n (λ i. g (suc i)) (λ i. f (suc i)) (λ k l. h (suc k) (suc-le-suc l) (λ z. omega arith)))
+tab-set (suc n) f g (suc a) v h e =
+    ap₂ _∷_ (h 0 (zero-lt-suc n) (λ z. omega arith))
+    (tab-set n (λ i. f (suc i)) (λ i. g (suc i)) a v (λ k l z. h (suc k) (suc-le-suc l) (λ y. z (omega arith))) (λ l. e (suc-le-suc l)))
+
+-- a list is the table of its elements
+pub tab-getD : (l : List ℕ) (n : ℕ) → length l ≡ n → tabulate n (λ a. getD l a 0) ≡ l
+tab-getD [] zero e = refl
+tab-getD [] (suc n) e = absurd (omega arith)
+tab-getD (x ∷ l) zero e = absurd (omega arith)
+tab-getD (x ∷ l) (suc n) e = ap (λ (r : List ℕ). x ∷ r) (tab-getD l n (omega arith))
+
+pub sum-set : (l : List ℕ) (a v : ℕ) → a < length l → sum (set l a v) + getD l a 0 ≡ sum l + v
+sum-set [] a v h = absurd (not-suc-le-zero h)
+sum-set (x ∷ l) zero v h = omega arith
+sum-set (x ∷ l) (suc a) v h = omega (arith, sum-set l a v (le-of-suc-le-suc h))
+
+pub sum-at : (l : List ℕ) (a : ℕ) → getD l a 0 ≤ sum l
+sum-at [] a = zero-le
+sum-at (x ∷ l) zero = omega arith
+sum-at (x ∷ l) (suc a) = omega (arith, sum-at l a)
+
+pub sum-change : (n : ℕ) (f g : ℕ → ℕ) (i : ℕ) → i < n → ((k : ℕ) → k < n → k ≢ i → g k ≡ f k) → sum (tabulate n g) + f i ≡ sum (tabulate n f) + g i
+sum-change n f g i l h =
+    rw (tab-set n f g i (g i) h (λ z. refl), ← getD-tab n f i l) (sum-set (tabulate n f) i (g i) (rw length-tab l))
+
+pub sum-tab-at : (n : ℕ) (f : ℕ → ℕ) (i : ℕ) → i < n → f i ≤ sum (tabulate n f)
+sum-tab-at n f i l = rw (← getD-tab n f i l) (sum-at (tabulate n f) i)
+
+pub sum-two : (n : ℕ) (f : ℕ → ℕ) (i k : ℕ) → i < n → k < n → i ≢ k → f i + f k ≤ sum (tabulate n f)
+sum-two zero f i k l m z = absurd (not-suc-le-zero l)
+sum-two (suc n) f zero zero l m z = absurd (z refl)
+sum-two (suc n) f zero (suc k) l m z = omega (arith, sum-tab-at n (λ j. f (suc j)) k (le-of-suc-le-suc m))
+sum-two (suc n) f (suc i) zero l m z = omega (arith, sum-tab-at n (λ j. f (suc j)) i (le-of-suc-le-suc l))
+sum-two (suc n) f (suc i) (suc k) l m z = omega (arith, sum-two n (λ j. f (suc j)) i k (le-of-suc-le-suc l) (le-of-suc-le-suc m) (λ e. z (ap suc e)))
+
+pub sum-zero : (n : ℕ) (f : ℕ → ℕ) → ((k : ℕ) → k < n → f k ≡ 0) → sum (tabulate n f) ≡ 0
+sum-zero zero f h = refl
+sum-zero (suc n) f h = rw (h 0 (zero-lt-suc n), sum-zero n (λ i. f (suc i)) (λ k l. h (suc k) (suc-le-suc l)))

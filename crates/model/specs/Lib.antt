@@ -1,0 +1,10 @@
+pub mod Lists
+pub mod Packed
+pub mod Shapes
+pub mod Levels
+pub mod Growing
+pub mod Slots
+pub mod Walls
+pub mod Sound
+pub mod Calls
+pub mod Runs
