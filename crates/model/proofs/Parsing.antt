@@ -8,14 +8,14 @@ use lib.Dec.{lit<, lit≤}
 use lib.Pow.{pow-pos, split}
 use lib.ListN.{length, getD, take, drop, set, length-append, length-take, length-drop, take-append-drop, length-map}
 use lib.Seq.{take-at, drop-at, drop-drop, length-take-le, take-all}
-use Rattle.model.specs.Lists.{pieces, concat}
+use Rattle.model.specs.Lists.{splice, pieces, concat}
 use Rattle.model.specs.Packed.{joinFields}
 use Rattle.model.specs.Shapes.{Row, rowsOf, bucketSize}
 use Rattle.model.specs.Walls.{Header, Bucket, Full, Wall, bucketsIn, letters, headFields, fullFields, fullWord, headerWords, version, wordAt, headField, readHeader, bucketWords, readBucket, fullWords, readFull, flatten, parseAs, parse}
 use Rattle.model.proofs.Lists.{map-set}
 use Rattle.model.proofs.Fields.{Fill, cut-join, join-cut}
 use Rattle.model.proofs.Tools.{Each, each-map, map-back}
-use Rattle.model.proofs.Pieces.{Sized, length-cat, chunks-cat, cat-chunks, length-chunks, sized-chunks, chunk-at, splice, splice-after, cat-set}
+use Rattle.model.proofs.Pieces.{Sized, length-cat, chunks-cat, cat-chunks, length-chunks, sized-chunks, chunk-at, splice-after, cat-set}
 use Rattle.model.proofs.Headers.{Good, Limits}
 
 -- ---- lists of known length

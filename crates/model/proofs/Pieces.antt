@@ -6,7 +6,7 @@ use native.Mathlib.Nat.{le-of-suc-le-suc, not-suc-le-zero, zero-mul, suc-mul, mu
 use native.Mathlib.Omega.{arith}
 use lib.ListN.{length, getD, take, drop, set, length-append, length-take, length-drop, take-append-drop}
 use lib.Seq.{take-at, drop-at, drop-drop, length-take-le, drop-cons, getD-drop, getD-append-add, take-all, take-add}
-use Rattle.model.specs.Lists.{pieces, concat}
+use Rattle.model.specs.Lists.{splice, pieces, concat}
 use Rattle.model.proofs.Tools.{Each}
 
 -- every one of them has n words
@@ -41,10 +41,6 @@ pub chunk-at : (n k : ℕ) (ws : List ℕ) (i : ℕ) → i < k → getD (pieces 
 chunk-at n zero ws i h = absurd (not-suc-le-zero h)
 chunk-at n (suc k) ws zero h = rw zero-mul
 chunk-at n (suc k) ws (suc i) h = rw (chunk-at n k (drop n ws) i (le-of-suc-le-suc h), drop-drop (i * n) n ws, suc-mul) (ap (λ x. take n (drop x ws)) (add-comm n (i * n)))
-
--- the words ws with those of c in place of as many from offset o on
-abbrev pub splice : List ℕ → ℕ → List ℕ → List ℕ
-splice ws o c = take o ws ++ (c ++ drop (o + length c) ws)
 
 pub splice-after : (p ws : List ℕ) (o : ℕ) (c : List ℕ) → splice (p ++ ws) (length p + o) c ≡ p ++ splice ws o c
 splice-after [] ws o c = rw zero-add

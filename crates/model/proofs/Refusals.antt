@@ -10,7 +10,7 @@ use lib.Dec.{T}
 use Rattle.model.specs.Lists.{choose, every, lowest}
 use Rattle.model.specs.Walls.{fresh, flatten, parse, good, readHeader, bucketsIn}
 use Rattle.model.specs.Sound.{count, soundAt, soundRest}
-use Rattle.model.specs.Calls.{Outcome, Refusal, refuse, firstMet, outcome, lookup, increment, close, raise, raiseRefusals, asked, check, bucketRefusals, stepRefusals, raisedBy}
+use Rattle.model.specs.Calls.{Outcome, Refusal, refuse, firstMet, outcome, reply, lookup, increment, close, raise, raiseRefusals, asked, check, bucketRefusals, stepRefusals, raisedBy}
 
 -- none of them is met
 abbrev pub Clear : List Refusal → Type 0
@@ -63,6 +63,15 @@ module _ (v : ℕ) (done ws : List ℕ) where
   pub answer-refused : (n : ℕ) → 0 < n → outcome n v done ws ≡ record { number = n; value = 0; words = ws }
   answer-refused zero h = absurd (not-suc-le-zero h)
   answer-refused (suc n) h = refl
+
+module _ (v : ℕ) where
+  pub reply-done : (n : ℕ) → n ≡ 0 → reply n v ≡ record { number = 0; value = v }
+  reply-done zero e = refl
+  reply-done (suc n) e = absurd (omega arith)
+
+  pub reply-refused : (n : ℕ) → 0 < n → reply n v ≡ record { number = n; value = 0 }
+  reply-refused zero h = absurd (not-suc-le-zero h)
+  reply-refused (suc n) h = refl
 
 -- ---- a refusal gives count 0 and changes no word
 

@@ -6,14 +6,13 @@ use Prim.Native.Nat.{ℕ, zero, suc, _+_, _*_, _^_, _≤_, _<_}
 use native.Mathlib.Nat.{add-assoc}
 use lib.ListN.{length, getD, set, take, drop, length-set, length-replicate}
 use lib.Seq.{paste, take-length}
-use Rattle.model.specs.Lists.{byMark, choose}
+use Rattle.model.specs.Lists.{splice, byMark, choose}
 use Rattle.model.specs.Packed.{joinFields}
 use Rattle.model.specs.Shapes.{bucketSize}
 use Rattle.model.specs.Walls.{Header, Bucket, Full, Wall, bucketsIn, bucketWords, fullWords, wordAt, fullFields, flatten, parse, emptyFull, emptyBucket, withTotals, wall}
 use Rattle.model.specs.Sound.{flag, fullNumber, bucketAt, ownAt, fullFor}
 use Rattle.model.specs.Calls.{noRoom, step, holding, overflowed, moveIn}
 use Rattle.model.proofs.Tools.{each-set, each-at}
-use Rattle.model.proofs.Pieces.{splice}
 use Rattle.model.proofs.Headers.{Good}
 use Rattle.model.proofs.Parsing.{Shaped, Lengths, shaped-parse, flatten-parse, flatten-bucket, flatten-full, offset-fulls}
 use Rattle.model.proofs.Steps.{hold-lengths, over-lengths, empty-lengths, length-moved}

@@ -2,7 +2,7 @@
 use mathlib.Core.Bool.{Bool, true, false, _&&_}
 use mathlib.Core.List.{List, [], _∷_, _++_}
 use Prim.Native.Nat.{ℕ, zero, suc, _+_}
-use lib.ListN.{take, drop}
+use lib.ListN.{take, drop, length}
 
 -- 1 where the test passes
 abbrev pub oneIf : Bool → ℕ
@@ -50,3 +50,7 @@ pieces n (suc k) ws = take n ws ∷ pieces n k (drop n ws)
 abbrev pub concat : List (List ℕ) → List ℕ
 concat [] = []
 concat (c ∷ cs) = c ++ concat cs
+
+-- the words ws with those of c in place of as many from offset o on
+abbrev pub splice : List ℕ → ℕ → List ℕ → List ℕ
+splice ws o c = take o ws ++ (c ++ drop (o + length c) ws)

@@ -1,0 +1,8 @@
+use layout::Bucket;
+use layout::Shape;
+
+// A bucket in hand: taken out of the wall with its first-level words, and its shape.
+pub struct Held {
+    pub shape: Shape,
+    pub bucket: Bucket,
+}
