@@ -45,7 +45,7 @@ unfolding rowsFrom
 rows-length zero s j = refl
 rows-length (suc n) s j = ap suc (rows-length n s (suc j))
 
-table-length : (p : ℕ) → 3 ≤ p → p ≤ 5 → length (rowsOf p) ≡ p - 1
+pub table-length : (p : ℕ) → 3 ≤ p → p ≤ 5 → length (rowsOf p) ≡ p - 1
 table-length p h k = sym (ap length (table-rows p 1 h k)) ∙ rows-length (p - 1) (shapeOf p 1) 0
 
 pub table-shape : (p w : ℕ) → 3 ≤ p → p ≤ 5 → 1 ≤ w → w ≤ 16 → Valid (shapeOf p w)

@@ -1,0 +1,22 @@
+use borrow.Author.Needs.{needs}
+use native.Mathlib.Omega.{arith}
+use Rattle.wall.proofs.Opening.{length-of-bucket}
+use Rattle.wall.proofs.header.bucket_length.Statement.{statement}
+use Rattle.wall.proofs.header.bucket_length.Tie as tie
+use Rattle.wall.proofs.header.bucket_length.Reads as reads
+use Rattle.wall.proofs.header.bucket_length.Lts as lts
+
+-- src/header.rt:71:5
+add-result : tie.Need-add-result
+add-result c = search needs
+
+-- src/header.rt:71:5
+add-result-2 : tie.Need-add-result-2
+add-result-2 c = search needs
+
+-- src/header.rt:67:1
+returns : tie.Need-returns
+returns c = (length-of-bucket (c .before .args .v) (c .before .pre), omega arith)
+
+pub bucket-length-spec : {M : Type 1} → statement M
+bucket-length-spec = tie.close (tie.spec add-result add-result-2 returns)
