@@ -161,3 +161,7 @@ known-of v s w b =
       bits-low = leb→le 6 (v .bits) (z .0);
       bits-high = leb→le (v .bits) 22 (z .1);
     }
+
+pub failed : (r t : Bool) → r ≡ t → not r ≡ true → T (not t)
+failed true t e n = absurd (subst T (sym n) tt)
+failed false t e n = subst (λ b. T (not b)) e tt

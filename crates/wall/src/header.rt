@@ -15,7 +15,7 @@ pub enum Opened {
 }
 
 // The letters B, W, L and version 1.
-const MARK: u64 = 0x1_4C5742;
+pub const MARK: u64 = 0x1_4C5742;
 
 // `open` shows that the words are there.
 fn fields(words: &[u64]) -> Wall

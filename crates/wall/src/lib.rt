@@ -1,1 +1,2 @@
+pub mod fresh;
 pub mod header;

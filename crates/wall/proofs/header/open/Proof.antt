@@ -57,7 +57,7 @@ returns-5 c = fails-test (c .before .before .before .before .before .before .bef
 
 -- src/header.rt:121:5
 open-sized-requires : tie.Need-open-sized-requires
-open-sized-requires c κs = 
+open-sized-requires c κs =
     let v = c .before .before .before .before .before .before .fields .result in
     let ws = c .before .before .before .before .before .before .before .before .before .before .before .args .words .now in
     let s = passed (c .before .before .before .before .before .known-shape .result) (knownShape (v .shape)) (c .before .before .before .before .before .known-shape .ensures) (c .before .before .before .before .if3 .left) in

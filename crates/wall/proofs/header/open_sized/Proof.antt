@@ -46,7 +46,7 @@ returns-5 c = let s = c .before .before .before .before .before .before .before 
 
 -- src/header.rt:144:30
 size-requires : tie.Need-size-requires
-size-requires c κs = 
+size-requires c κs =
     let s = c .before .before .before .before .before .before .before .before .before .before .before in
     let f = passed (c .before .before .before .before .before .before .before .full-fits .result) (fullFits (headerOf (s .args .v))) (c .before .before .before .before .before .before .before .full-fits .ensures) (c .before .before .before .before .before .before .if2 .left) in
     (s .pre .0, leb→le (s .args .v .full) 4096 (and-tests (leb (s .args .v .full) (bucketsIn (headerOf (s .args .v)))) (leb (s .args .v .full) 4096) f .1))
@@ -57,7 +57,7 @@ returns-6 c = let s = c .before .before .before .before .before .before .before 
 
 -- src/header.rt:125:1
 returns-7 : tie.Need-returns-7
-returns-7 c = 
+returns-7 c =
     let s = c .before .before .before .before .before .before .before .before .before .before .before .before .before in
     let v = s .args .v in
     let l = passed (c .before .before .before .before .before .before .before .before .before .before .before .limit-fits .result) (limitFits (headerOf v)) (c .before .before .before .before .before .before .before .before .before .before .before .limit-fits .ensures) (c .before .before .before .before .before .before .before .before .before .before .if1 .left) in
