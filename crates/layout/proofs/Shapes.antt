@@ -112,3 +112,37 @@ widths-sum s v = go (s .uppers) (facts s v .levels .1) (λ j h. v .past j h .1)
 
 pub counter-bits : (s : Shape) → Valid s → counterBits (s .width) (rowsIn s) ≡ s .width + (widthAt s 0 + widthAt s 1 + widthAt s 2 + widthAt s 3)
 counter-bits s v = counter-sum (s .width) (rowsIn s) ∙ ap (λ n. s .width + n) (widths-sum s v)
+
+-- the entries of all levels but the last, by the number of levels
+module _ (s : Shape) (v : Valid s) where
+  pub marks-one : s .uppers ≤ 1 → sum (markWidths (rowsIn s)) ≡ 0
+  unfolding rowsFrom
+  marks-one h = go (s .uppers) h
+    where
+      go : (n : ℕ) → n ≤ 1 → sum (markWidths (rowsFrom n s 0)) ≡ 0
+      go zero l = refl
+      go (suc zero) l = refl
+      go (suc (suc n)) l = absurd (omega arith)
+
+  pub marks-two : s .uppers ≡ 2 → sum (markWidths (rowsIn s)) ≡ entriesAt s 0
+  unfolding rowsFrom
+  marks-two e = ap (λ n. sum (markWidths (rowsFrom n s 0))) e ∙ omega arith
+
+  pub marks-three : s .uppers ≡ 3 → sum (markWidths (rowsIn s)) ≡ entriesAt s 0 + entriesAt s 1
+  unfolding rowsFrom
+  marks-three e = ap (λ n. sum (markWidths (rowsFrom n s 0))) e ∙ omega arith
+
+  pub marks-four : s .uppers ≡ 4 → sum (markWidths (rowsIn s)) ≡ entriesAt s 0 + entriesAt s 1 + entriesAt s 2
+  unfolding rowsFrom
+  marks-four e = ap (λ n. sum (markWidths (rowsFrom n s 0))) e ∙ omega arith
+
+pub four-levels : (s : Shape) → Valid s → 1 < s .uppers → (s .uppers ≡ 2 → ⊥) → (s .uppers ≡ 3 → ⊥) → s .uppers ≡ 4
+four-levels s v h two three = go (s .uppers) h (facts s v .levels .1) two three
+  where
+    go : (n : ℕ) → 1 < n → n ≤ 4 → (n ≡ 2 → ⊥) → (n ≡ 3 → ⊥) → n ≡ 4
+    go zero h k f g = absurd (omega arith)
+    go (suc zero) h k f g = absurd (omega arith)
+    go (suc (suc zero)) h k f g = absurd (f refl)
+    go (suc (suc (suc zero))) h k f g = absurd (g refl)
+    go (suc (suc (suc (suc zero)))) h k f g = refl
+    go (suc (suc (suc (suc (suc n))))) h k f g = absurd (omega arith)

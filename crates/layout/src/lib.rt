@@ -4,7 +4,8 @@ ghost use Prim.Native.Nat.{_+_, _-_, _≤_, _<_};
 ghost use lib.ListN.{replicate};
 ghost use Rattle.answer.specs.Answers.{replyOf};
 ghost use Rattle.model.specs.Calls.{limitsCall};
-ghost use Rattle.model.specs.Shapes.{counterBits, widthAsked};
+ghost use Rattle.model.specs.Lists.{sum};
+ghost use Rattle.model.specs.Shapes.{counterBits, markWidths, widthAsked};
 ghost use Rattle.layout.specs.Shapes.{Valid, rowsIn, shapeOf, tableEntries, tableWidth};
 
 // Document 01's table, row by row: shapes 3, 4 and 5, levels 2 to 5.
@@ -69,6 +70,24 @@ impl Shape {
         ensures { λ r. ⌜ r ≡ counterBits (self .width) (rowsIn self) ⌝ }
     {
         self.width + self.widths[0] + self.widths[1] + self.widths[2] + self.widths[3]
+    }
+
+    // The bits of marks in the packed word: the last level has none.
+    pub fn mark_bits(self) -> u64
+        requires { ⌜ Valid self ⌝ }
+        ensures { λ r. ⌜ (r ≡ sum (markWidths (rowsIn self))) × (r ≤ 40) ⌝ }
+    {
+        let uppers = self.uppers;
+        if uppers <= 1 {
+            return 0;
+        }
+        if uppers == 2 {
+            return self.entries[0];
+        }
+        if uppers == 3 {
+            return self.entries[0] + self.entries[1];
+        }
+        self.entries[0] + self.entries[1] + self.entries[2]
     }
 }
 
