@@ -1,2 +1,3 @@
 pub mod Ahead
 pub mod Views
+pub mod Reading

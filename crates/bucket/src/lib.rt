@@ -1,6 +1,8 @@
 use layout::Bucket;
 use layout::Shape;
 
+pub mod read;
+
 // A bucket in hand: taken out of the wall with its first-level words, and its shape.
 pub struct Held {
     pub shape: Shape,
