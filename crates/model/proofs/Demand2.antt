@@ -15,7 +15,7 @@ use Rattle.model.specs.Shapes.{rowsOf}
 use Rattle.model.specs.Slots.{slot}
 use Rattle.model.specs.Walls.{Header, Wall, bucketsIn, flows, wallSize, bucketWords, fullWords, readHeader, good, flatten, parse, withTotals, bucketOf, placeOf}
 use Rattle.model.specs.Sound.{flag, bucketAt, countsAt, soundAt, count}
-use Rattle.model.specs.Calls.{Outcome, firstMet, noRoom, step, overflows, bucketRefusals, stepRefusals, raisedBy, lookup, increment, check}
+use Rattle.model.specs.Calls.{Clear, Outcome, firstMet, noRoom, step, overflows, bucketRefusals, stepRefusals, raisedBy, lookup, increment, check}
 use Rattle.model.proofs.Tests.{every-at}
 use Rattle.model.proofs.Slots.{slot-inj}
 use Rattle.model.proofs.Tools.{by-eq}
@@ -24,7 +24,7 @@ use Rattle.model.proofs.Headers.{Good, Limits, of-good, bucket-lt}
 use Rattle.model.proofs.Parsing.{Shaped, Coded, coded-of, read-head, head-marked, parse-flatten, offset-fulls, sized-fulls}
 use Rattle.model.proofs.SoundWalls.{SoundWall, check-sound, of-sound}
 use Rattle.model.proofs.Steps.{Stepped, step-sound, length-countsAt}
-use Rattle.model.proofs.Refusals.{Clear, Named, first-clear, clear-first, first-skip, answer-no, answer-done}
+use Rattle.model.proofs.Refusals.{Named, first-clear, clear-first, first-skip, answer-no, answer-done}
 
 -- ---- the words of a sound wall are accepted
 

@@ -11,12 +11,12 @@ use lib.Arith.{lt-of-le-ne}
 use lib.ListN.{getD}
 use Rattle.model.specs.Walls.{Wall, countEnd, good, flatten, parse, bucketOf, placeOf}
 use Rattle.model.specs.Sound.{bucketAt, fullFor, countsAt, soundAt, count}
-use Rattle.model.specs.Calls.{Refusal, refuse, firstMet, overflows, bucketRefusals, stepRefusals, raisedBy, increment}
+use Rattle.model.specs.Calls.{Clear, Refusal, refuse, firstMet, overflows, bucketRefusals, stepRefusals, raisedBy, increment}
 use Rattle.model.proofs.Headers.{Limits, good-of}
 use Rattle.model.proofs.Sums.{sum-at}
 use Rattle.model.proofs.Buckets.{bucket-facts}
 use Rattle.model.proofs.SoundWalls.{parse-header}
-use Rattle.model.proofs.Refusals.{Clear, first-drop, first-apart, answer-no}
+use Rattle.model.proofs.Refusals.{first-drop, first-apart, answer-no}
 
 pub eqb-not : (m n : ℕ) → m < n → T (not (eqb m n))
 eqb-not m n h = not-T (eqb m n) (λ t. omega (arith, eqb→eq m n t))

@@ -10,12 +10,7 @@ use lib.Dec.{T}
 use Rattle.model.specs.Lists.{choose, every, lowest}
 use Rattle.model.specs.Walls.{fresh, flatten, parse, good, readHeader, bucketsIn}
 use Rattle.model.specs.Sound.{count, soundAt, soundRest}
-use Rattle.model.specs.Calls.{Outcome, Refusal, refuse, firstMet, outcome, reply, lookup, increment, close, raise, raiseRefusals, asked, check, bucketRefusals, stepRefusals, raisedBy}
-
--- none of them is met
-abbrev pub Clear : List Refusal → Type 0
-Clear [] = Unit {0}
-Clear (r ∷ rs) = T (not (r .met)) × Clear rs
+use Rattle.model.specs.Calls.{Clear, Outcome, Refusal, refuse, firstMet, outcome, reply, lookup, increment, close, raise, raiseRefusals, asked, check, bucketRefusals, stepRefusals, raisedBy}
 
 abbrev pub Named : List Refusal → Type 0
 Named [] = Unit {0}

@@ -2,7 +2,7 @@
 use mathlib.Core.Bool.{Bool, true, false, _&&_, not}
 use mathlib.Core.List.{List, [], _∷_, _++_, map}
 use Prim.Native.Nat.{ℕ, zero, suc, _+_, _*_, _/_, _^_}
-use lib.Dec.{leb, ltb, eqb}
+use lib.Dec.{T, leb, ltb, eqb}
 use lib.ListN.{length, set, take, drop}
 use Rattle.model.specs.Lists.{choose, byMark, every, lowest}
 use Rattle.model.specs.Packed.{pack, unpack, joinFields}
@@ -25,6 +25,11 @@ refuse n b = record { number = n; met = b }
 abbrev pub firstMet : List Refusal → ℕ
 firstMet [] = 0
 firstMet (r ∷ rs) = choose (r .met) (r .number) (firstMet rs)
+
+-- none of them is met
+abbrev pub Clear : List Refusal → Type 0
+Clear [] = Unit {0}
+Clear (r ∷ rs) = T (not (r .met)) × Clear rs
 
 -- ---- the answer of a call on numbers, and the outcome of a call on words
 

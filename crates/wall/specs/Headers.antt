@@ -2,6 +2,7 @@
 use mathlib.Core.Path.{_≡_}
 use mathlib.Core.List.{List}
 use Prim.Native.Nat.{ℕ, _/_, _%_, _^_, _≤_}
+use lib.Dec.{T}
 use lib.ListN.{length}
 use Rattle.model.specs.Lists.{choose}
 use Rattle.model.specs.Walls.{headField, letters, version, wordAt, good}
@@ -40,3 +41,8 @@ pub record Marked (ws : List ℕ) : Type 0 where
 -- the header of words that number 7 does not meet
 abbrev pub openedOf : List ℕ → Opened
 openedOf ws = choose (good ws) (Good (fieldsOf ws)) Bad
+
+-- v is the header of these words, and good
+pub record Open (ws : List ℕ) (v : Wall) : Type 0 where
+  pub fields : v ≡ fieldsOf ws
+  pub good : T (good ws)

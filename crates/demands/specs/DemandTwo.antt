@@ -1,0 +1,46 @@
+-- Demand 2: lookup and increment do exactly what the scheme and the layout say.
+use mathlib.Core.Logic.{_≢_}
+use mathlib.Core.Path.{_≡_}
+use mathlib.Core.List.{List}
+use Prim.Native.Nat.{ℕ, _+_, _^_, _<_}
+use Rattle.model.specs.Walls.{Header, Wall, flows, bucketsIn, withTotals, wordAt, parse, emptyFull}
+use Rattle.model.specs.Sound.{flag, fullNumber, bucketAt, ownAt, countsAt, fullFor, movedAt, fullCount, count}
+use Rattle.model.specs.Calls.{Outcome, Clear, bucketRefusals, stepRefusals, holding, overflowed, lookup, increment, check}
+use mathlib.Core.List.{_++_}
+use lib.ListN.{getD}
+
+abbrev pub Accepted : List ℕ → Type 0
+Accepted ws = check ws .number ≡ 0
+
+-- what an accepted increment of flow y leaves of a wall that the check accepts: one count and the total one more, every other count as it
+-- was, and a wall that the check accepts
+pub record Raised (ws : List ℕ) (y : ℕ) (r : Outcome) : Type 0 where
+  pub value : r .value ≡ count (parse ws) y + 1
+  pub here : count (parse (r .words)) y ≡ count (parse ws) y + 1
+  pub there : (z : ℕ) → z < flows (parse ws .header) → z ≢ y → count (parse (r .words)) z ≡ count (parse ws) z
+  pub header : parse (r .words) .header ≡ withTotals (parse ws .header) (parse ws .header .total + 1) (parse (r .words) .header .used)
+  pub accepted : Accepted (r .words)
+
+-- the words of a bucket of such a wall are the only ones that the layout allows: without the flag the encoding of its counts; with it that
+-- of its own counts with the flag and the number, and in its full-size bucket a count for each moved place and 0 for each other
+pub record Laid (v : Wall) (i : ℕ) : Type 0 where
+  pub plain : flag (bucketAt v i) ≡ 0 → bucketAt v i ≡ holding (v .header .width) (v .header .rows) (countsAt v i)
+  pub flagged : flag (bucketAt v i) ≡ 1 → bucketAt v i ≡ overflowed (holding (v .header .width) (v .header .rows) (ownAt v i)) (fullNumber (bucketAt v i))
+  pub moved : (a : ℕ) → a < 64 → movedAt (fullFor v i) a ≡ 1 → fullCount (fullFor v i) a ≡ getD (countsAt v i) a 0
+  pub unmoved : (a : ℕ) → a < 64 → movedAt (fullFor v i) a ≡ 0 → (fullCount (fullFor v i) a ≡ 0) × (getD (ownAt v i) a 0 ≡ getD (countsAt v i) a 0)
+
+-- two accepted walls of one header, without flags and with the same counts
+pub record Alike (ws us : List ℕ) : Type 0 where
+  pub header : parse ws .header ≡ parse us .header
+  pub plain : (i : ℕ) → i < bucketsIn (parse ws .header) → (flag (bucketAt (parse ws) i) ≡ 0) × (flag (bucketAt (parse us) i) ≡ 0)
+  pub counts : (y : ℕ) → y < flows (parse ws .header) → count (parse ws) y ≡ count (parse us) y
+
+pub record DemandTwo : Type 0 where
+  pub reads : (ws : List ℕ) (y : ℕ) → Accepted ws → y < flows (parse ws .header) → lookup ws y ≡ record { number = 0; value = count (parse ws) y; words = ws }
+  pub raises : (ws : List ℕ) (y : ℕ) → Accepted ws → increment ws y .number ≡ 0 → Raised ws y (increment ws y)
+  pub laid : (ws : List ℕ) → Accepted ws → (i : ℕ) → i < bucketsIn (parse ws .header) → Laid (parse ws) i
+  pub same-words : (ws us : List ℕ) → wordAt ws 0 < 2 ^ 64 → wordAt us 0 < 2 ^ 64 → Accepted ws → Accepted us → Alike ws us → ws ≡ us
+  -- on any words whose own bucket is sound, accepted by the check or not
+  pub own-reads : (ws : List ℕ) (y : ℕ) → Clear (bucketRefusals ws y) → lookup ws y ≡ record { number = 0; value = count (parse ws) y; words = ws }
+  pub own-raises : (ws : List ℕ) (y : ℕ) → Clear (bucketRefusals ws y ++ stepRefusals (parse ws) y)
+      → (increment ws y .number ≡ 0) × (increment ws y .value ≡ count (parse ws) y + 1) × (count (parse (increment ws y .words)) y ≡ count (parse ws) y + 1)

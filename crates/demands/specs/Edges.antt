@@ -1,0 +1,55 @@
+-- The document's edges P1 to P10, together. Shape 3, w1 1, b 6, M 100, J 0 unless said.
+use mathlib.Core.Path.{_≡_}
+use mathlib.Core.List.{List, [], _∷_, _++_}
+use Prim.Native.Nat.{ℕ, _+_, _^_, _/_, _%_}
+use lib.ListN.{replicate, getD}
+use Rattle.model.specs.Lists.{tabulate}
+use Rattle.model.specs.Slots.{slot}
+use Rattle.model.specs.Calls.{Outcome, lookup, increment, check, raise}
+use Rattle.model.specs.Runs.{run}
+
+-- a fresh wall with the limit m and j full-size buckets, in n words
+abbrev pub new : ℕ → ℕ → ℕ → List ℕ
+new m j n = raise 3 1 6 m j (replicate n 0) .words
+
+-- flow y, n times
+abbrev pub times : ℕ → ℕ → List ℕ
+times n y = replicate n y
+
+-- flows 0..14 to 2, flow 15 to 1
+abbrev pub sixteen : List ℕ
+sixteen = tabulate 15 (λ i. i) ++ tabulate 16 (λ i. i)
+
+-- the words of the one bucket: A1, I1, A2, A3, the packed word
+abbrev pub bucket : List ℕ → List ℕ
+bucket ws = getD ws 4 0 ∷ getD ws 5 0 ∷ getD ws 6 0 ∷ getD ws 7 0 ∷ getD ws 8 0 ∷ []
+
+-- the number and the value
+abbrev pub said : Outcome → List ℕ
+said r = r .number ∷ r .value ∷ []
+
+pub record Edges : Type 0 where
+  pub p1 : said (raise 3 1 6 100 0 (replicate 9 0)) ≡ 0 ∷ 0 ∷ []
+  pub p1-word : getD (new 100 0 9) 0 0 ≡ 0x06010300014C5742
+  pub p1-short : said (raise 3 1 6 100 0 (replicate 8 0)) ≡ 6 ∷ 0 ∷ []
+  pub p1-long : said (raise 3 1 6 100 0 (replicate 10 0)) ≡ 6 ∷ 0 ∷ []
+  pub p2 : slot 6 0 ∷ slot 6 1 ∷ slot 6 2 ∷ slot 6 3 ∷ slot 6 63 ∷ [] ≡ 0 ∷ 32 ∷ 16 ∷ 48 ∷ 63 ∷ []
+  pub p3 : slot 9 1 ∷ slot 9 1 / 64 ∷ slot 9 1 % 64 ∷ slot 9 8 ∷ [] ≡ 256 ∷ 4 ∷ 0 ∷ 32 ∷ []
+  pub p4 : bucket (run (new 100 0 9) (times 2 1) .words) ≡ 0 ∷ 2 ^ 32 ∷ 1 ∷ 0 ∷ 0 ∷ []
+  pub p5 : bucket (run (new 100 0 9) (times 2 1 ++ times 2 2) .words) ≡ 0 ∷ (2 ^ 16 + 2 ^ 32) ∷ 0x11 ∷ 0 ∷ 0 ∷ []
+  pub p5-more : bucket (run (new 100 0 9) (times 2 1 ++ (times 2 2 ++ times 3 1)) .words) ≡ 2 ^ 32 ∷ (2 ^ 16 + 2 ^ 32) ∷ 0x21 ∷ 0 ∷ 0 ∷ []
+  pub p6 : bucket (run (new 100 0 9) (times 32 1 ++ times 2 2) .words) ≡ 0 ∷ (2 ^ 16 + 2 ^ 32) ∷ 1 ∷ 1 ∷ 2 ∷ []
+  pub p6-reads : said (lookup (run (new 100 0 9) (times 32 1 ++ times 2 2) .words) 1) ++ said (lookup (run (new 100 0 9) (times 32 1 ++ times 2 2) .words) 2)
+      ≡ 0 ∷ 32 ∷ 0 ∷ 2 ∷ []
+  pub p7-total : getD (run (new 100 0 9) sixteen .words) 2 0 ≡ 31
+  pub p7-refused : said (increment (run (new 100 0 9) sixteen .words) 15) ≡ 12 ∷ 0 ∷ []
+  pub p7 : said (increment (run (new 100 1 74) sixteen .words) 15) ≡ 0 ∷ 2 ∷ []
+  pub p7-used : getD (run (new 100 1 74) (sixteen ++ (15 ∷ [])) .words) 3 0 ≡ 1 + 2 ^ 16
+  pub p8 : said (lookup (run (new 100 1 74) (sixteen ++ (15 ∷ [])) .words) 0) ++ said (increment (run (new 100 1 74) (sixteen ++ (15 ∷ [])) .words) 0)
+      ≡ 0 ∷ 2 ∷ 0 ∷ 3 ∷ []
+  pub p9 : run (new 1 0 9) (times 2 1) .number ≡ 10
+  pub p10 : said (increment (run (new 31 0 9) sixteen .words) 15) ≡ 10 ∷ 0 ∷ []
+  pub sound : check (run (new 100 1 74) (sixteen ++ (15 ∷ [])) .words) .number ≡ 0
+  pub limit : raise 3 1 6 262143 0 (replicate 9 0) .number ∷ raise 3 1 6 262144 0 (replicate 9 0) .number ∷ [] ≡ 0 ∷ 4 ∷ []
+  pub full : raise 3 1 6 100 1 (replicate 74 0) .number ∷ raise 3 1 6 100 2 (replicate 139 0) .number ∷ [] ≡ 0 ∷ 5 ∷ []
+  pub flow : increment (new 100 0 9) 63 .number ∷ increment (new 100 0 9) 64 .number ∷ [] ≡ 0 ∷ 8 ∷ []

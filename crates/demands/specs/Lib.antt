@@ -1,0 +1,4 @@
+pub mod DemandOne
+pub mod DemandTwo
+pub mod DemandThree
+pub mod Edges
