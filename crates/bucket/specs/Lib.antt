@@ -1,2 +1,4 @@
 pub mod Shapes
 pub mod Held
+pub mod Judge
+pub mod Sums

@@ -1,7 +1,9 @@
 use layout::Bucket;
 use layout::Shape;
 
+pub mod judge;
 pub mod read;
+pub mod sums;
 
 // A bucket in hand: taken out of the wall with its first-level words, and its shape.
 pub struct Held {
