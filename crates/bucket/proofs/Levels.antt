@@ -24,19 +24,12 @@ use Rattle.layout.specs.Shapes.{rowsFrom, entriesAt, widthAt}
 use Rattle.bucket.specs.Shapes.{At, levelsFrom}
 use Rattle.bucket.specs.declared.judge.Judged.{Judged}
 use Rattle.bucket.specs.declared.judge.Judged.the-variants.{Sound, Unsound}
+use Rattle.bucket.proofs.Verdicts.{said-sound, said-not}
 use Rattle.bucket.specs.Judge.{verdict, filled, sumLevels}
 use Rattle.bucket.proofs.Ahead.{ahead}
 use Rattle.bucket.proofs.Judging.{sum-most}
 
 -- ---- what a verdict tells
-
-pub said-sound : (b : Bool) (n : ℕ) {x : ℕ} → verdict b n ≡ Sound x → (b ≡ true) × (n ≡ x)
-said-sound true n e = (refl, cc)
-said-sound false n e = let z : _≡_ {A = ℕ} 0 1 = cc in absurd (omega arith)
-
-pub said-not : (b : Bool) (n : ℕ) → verdict b n ≡ Unsound → b ≡ false
-said-not false n e = refl
-said-not true n e = let z : _≡_ {A = ℕ} 0 1 = cc in absurd (omega arith)
 
 -- where the levels are not sound, the sum does not matter
 pub same-verdict : (b : Bool) {m n : ℕ} → (T b → m ≡ n) → verdict b m ≡ verdict b n

@@ -5,3 +5,8 @@ pub mod Judging
 pub mod Levels
 pub mod Totals
 pub mod Drawing
+pub mod Splices
+pub mod Stored
+pub mod Fulls
+pub mod Verdicts
+pub mod Places

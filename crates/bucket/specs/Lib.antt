@@ -1,4 +1,5 @@
 pub mod Shapes
 pub mod Held
 pub mod Judge
+pub mod Full
 pub mod Sums

@@ -1,3 +1,4 @@
 pub mod Opening
 pub mod Starting
 pub mod Places
+pub mod Soundness

@@ -1,0 +1,59 @@
+use borrow.Author.Needs.{needs}
+use mathlib.Core.Path.{sym, _∙_}
+use Rattle.bucket.specs.Held.{ownOf}
+use Rattle.bucket.proofs.Places.{own-count, moved-count}
+use Rattle.bucket.proofs.Held.full_count.Statement.{statement}
+use Rattle.bucket.proofs.Held.full_count.Tie as tie
+
+mul-bit : tie.Need-mul-bit
+mul-bit c = search needs
+
+shared-slice-read-bit : tie.Need-shared-slice-read-bit
+shared-slice-read-bit c = search needs
+
+bit-requires : tie.Need-bit-requires
+bit-requires c κs = search needs
+
+count-requires : tie.Need-count-requires
+count-requires c κs = search needs
+
+returns : tie.Need-returns
+returns c =
+    let b = c .before .before in
+    let p = b .before .before .before in
+    let a = p .args in
+    c .count .ensures .0 ∙ sym (own-count (ownOf (a .self)) (a .words .now) (a .at) (a .place) (p .pre .1) (sym (b .bit .ensures) ∙ c .before .if1 .taken))
+
+add-result : tie.Need-add-result
+add-result c = search needs
+
+add-result-2 : tie.Need-add-result-2
+add-result-2 c = search needs
+
+mul-result : tie.Need-mul-result
+mul-result c = search needs
+
+shared-slice-read-result : tie.Need-shared-slice-read-result
+shared-slice-read-result c = search needs
+
+returns-2 : tie.Need-returns-2
+returns-2 c =
+    let b = c .before .before in
+    let p = b .before .before .before in
+    let a = p .args in
+    sym (moved-count (ownOf (a .self)) (a .words .now) (a .at) (a .place) (p .pre .1) (λ e. c .before .if1 .left (b .bit .ensures ∙ e)))
+
+pub full-count-spec : {M : Type 1} → statement M
+full-count-spec =
+    tie.close
+    (tie.spec
+    mul-bit
+    shared-slice-read-bit
+    bit-requires
+    count-requires
+    returns
+    add-result
+    add-result-2
+    mul-result
+    shared-slice-read-result
+    returns-2)

@@ -1,0 +1,82 @@
+use borrow.Author.Needs.{needs}
+use mathlib.Core.Path.{_≡_, _∙_}
+use native.Mathlib.Omega.{arith}
+use lib.ListN.{length, length-set}
+use Rattle.bucket.proofs.Stored.{Room, room, stored}
+use Rattle.bucket.proofs.Held.store.Statement.{statement}
+use Rattle.bucket.proofs.Held.store.Tie as tie
+
+has : (c : tie.Start) → Room (c .args .self .shape) (c .args .at) (length (c .args .words .now))
+has c = room (c .args .self .shape) (c .args .at) (length (c .args .words .now)) (c .pre .0) (c .pre .1)
+
+first-long : (c : tie.Start) → length (c .args .self .bucket .first) ≡ 16
+first-long c = search needs
+
+upper-long : (c : tie.Start) → length (c .args .self .bucket .upper) ≡ 4
+upper-long c = search needs
+
+slice-aggregate-copy : tie.Need-slice-aggregate-copy
+slice-aggregate-copy c = search needs
+
+copy-requires : tie.Need-copy-requires
+copy-requires c κs = let p = c .before .before .before .before .before .before in let r = has p in (omega (arith, r .inside), omega (arith, r .first, first-long p))
+
+add-next : tie.Need-add-next
+add-next c = search needs
+
+mul-words : tie.Need-mul-words
+mul-words c = search needs
+
+slice-write-words : tie.Need-slice-write-words
+slice-write-words c = search needs
+
+add-copy : tie.Need-add-copy
+add-copy c = search needs
+
+slice-aggregate-copy-2 : tie.Need-slice-aggregate-copy-2
+slice-aggregate-copy-2 c = search needs
+
+copy-requires-2 : tie.Need-copy-requires-2
+copy-requires-2 c κs = let p = c .before .before .before .before .before .before .before .before .before .before .before .before in let r = has p in (simp length-set (omega (arith, r .inside)), omega (arith, r .upper, upper-long p))
+
+add-words : tie.Need-add-words
+add-words c = search needs
+
+add-words-2 : tie.Need-add-words-2
+add-words-2 c = let r = has (c .before .before .before .before .before .before .before .before .before .before .before .before .before .before .before) in omega (arith, r .inside)
+
+mul-words-2 : tie.Need-mul-words-2
+mul-words-2 c = let r = has (c .before .before .before .before .before .before .before .before .before .before .before .before .before .before .before) in omega (arith, r .inside)
+
+slice-write-words-2 : tie.Need-slice-write-words-2
+slice-write-words-2 c =
+    let r = has (c .before .before .before .before .before .before .before .before .before .before .before .before .before .before .before) in
+    omega (arith, r .inside, simp length-set at (c .before .before .copy2 .kept .0), c .before .before .before .before .before .before .before .before .copy .kept .0)
+
+same-length : tie.Need-same-length
+same-length c = simp length-set (simp length-set at (c .before .before .copy2 .kept .0) ∙ c .before .before .before .before .before .before .before .before .copy .kept .0)
+
+returns : tie.Need-returns
+returns c =
+    let p = c .before .before .before .before .before .before .before .before .before .before .before .before .before .before .before in
+    let a = p .args in
+    stored (a .self .shape) (a .self .bucket) (a .words .now) (a .at) (c .before .before .before .before .before .before .before .before .copy .last .0) (c .before .before .copy2 .last .0) (has p) (first-long p) (upper-long p) (c .before .before .before .before .before .before .before .before .copy .ensures) (c .before .before .copy2 .ensures)
+
+pub store-spec : {M : Type 1} → statement M
+store-spec =
+    tie.close
+    (tie.spec
+    slice-aggregate-copy
+    copy-requires
+    add-next
+    mul-words
+    slice-write-words
+    add-copy
+    slice-aggregate-copy-2
+    copy-requires-2
+    add-words
+    add-words-2
+    mul-words-2
+    slice-write-words-2
+    same-length
+    returns)

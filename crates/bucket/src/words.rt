@@ -1,0 +1,64 @@
+// A bucket taken out of the words of a wall, and stored there again.
+use super::Held;
+use layout::Bucket;
+use layout::Shape;
+ghost use mathlib.Core.Path.{_≡_};
+ghost use Prim.Native.Nat.{_+_, _≤_};
+ghost use lib.ListN.{length, take, drop};
+ghost use lib.Seq.{paste};
+ghost use Rattle.model.specs.Lists.{splice};
+ghost use Rattle.model.specs.Shapes.{bucketSize};
+ghost use Rattle.model.specs.Walls.{readBucket, bucketWords};
+ghost use Rattle.layout.specs.Shapes.{rowsIn, Valid};
+ghost use Rattle.bucket.specs.Held.{viewOf};
+
+// n words of `from`, from start on, into `to` from at on. `take` and `store` show that both have as many.
+fn copy(to: &mut [u64], at: usize, from: &[u64], start: usize, n: usize)
+    requires { ⌜ (at + n ≤ length (now to)) × (start + n ≤ length (now from)) ⌝ }
+    ensures { λ _. ⌜ now (to .exit) ≡ paste (now (to .entry)) at (drop start (now (from .entry))) n ⌝ }
+{
+    let mut i = 0;
+    while i < n {
+        to[at + i] = from[start + i];
+        i += 1;
+    }
+}
+
+impl Held {
+    pub fn take(words: &[u64], at: usize, shape: Shape) -> Self
+        requires { ⌜ Valid shape × (at + bucketSize (shape .width) (rowsIn shape) ≤ length (now words)) ⌝ }
+        ensures { λ r. ⌜ (r .shape ≡ shape) × (viewOf r ≡ readBucket (shape .width) (rowsIn shape) (take (bucketSize (shape .width) (rowsIn shape)) (drop at (now (words .entry))))) ⌝ }
+    {
+        let width = shape.width as usize;
+        let uppers = shape.uppers as usize;
+        let mut first = [0u64; 16];
+        copy(&mut first[..], 0, words, at, width);
+        let next = at + width;
+        let mut upper = [0u64; 4];
+        copy(&mut upper[..], 0, words, next + 1, uppers);
+        let bucket = Bucket {
+            first,
+            marks: words[next],
+            upper,
+            packed: words[next + 1 + uppers],
+        };
+        Held { shape, bucket }
+    }
+
+    pub fn store(self, words: &mut [u64], at: usize)
+        requires { ⌜ Valid (self .shape) × (at + bucketSize (self .shape .width) (rowsIn (self .shape)) ≤ length (now words)) ⌝ }
+        ensures { λ _. ⌜ now (words .exit) ≡ splice (now (words .entry)) at (bucketWords (viewOf self)) ⌝ }
+    {
+        let shape = self.shape;
+        let bucket = self.bucket;
+        let width = shape.width as usize;
+        let uppers = shape.uppers as usize;
+        let first = bucket.first;
+        copy(words, at, &first[..], 0, width);
+        let next = at + width;
+        words[next] = bucket.marks;
+        let upper = bucket.upper;
+        copy(words, next + 1, &upper[..], 0, uppers);
+        words[next + 1 + uppers] = bucket.packed;
+    }
+}
