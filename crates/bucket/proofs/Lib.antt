@@ -6,7 +6,7 @@ pub mod Levels
 pub mod Totals
 pub mod Drawing
 pub mod Splices
-pub mod Stored
+pub mod BucketWords
 pub mod Fulls
 pub mod Verdicts
 pub mod Places

@@ -35,7 +35,7 @@ fn clear(words: &mut [u64], at: usize)
     }
 }
 
-// The bucket is written whole, whatever stood there: the place is moved, with this count, and all the rest is 0.
+// Every word is written, whatever stood there: the place is moved, with this count, and the rest is 0. It asks as `move_in` does.
 pub fn move_first(words: &mut [u64], at: usize, place: u64, count: u64)
     requires { ⌜ (at + 65 ≤ length (now words)) × (place < 64) ⌝ }
     ensures { λ _. ⌜ now (words .exit) ≡ splice (now (words .entry)) at (fullWords (moveIn emptyFull place count)) ⌝ }
@@ -45,7 +45,7 @@ pub fn move_first(words: &mut [u64], at: usize, place: u64, count: u64)
 }
 
 impl Held {
-    // The count of a place: the full-size one if the place is moved, else the bucket's own.
+    // The count of a place: the full-size one if it is moved, else the bucket's own. Its caller knows that the shape fits and the words are there.
     pub fn full_count(self, words: &[u64], at: usize, place: u64) -> u64
         requires { ⌜ Fit (self .shape) × (place < 64) × (at + 65 ≤ length (now words)) ⌝ }
         ensures { λ r. ⌜ r ≡ getD (bucketCounts (ownOf self) (fullAt (now (words .entry)) at)) place 0 ⌝ }
@@ -77,7 +77,7 @@ impl Held {
         Judged::Sound(full)
     }
 
-    // Whether the full-size bucket is sound, and the sum of the counts, which stay within the total.
+    // Whether the full-size bucket is sound, with the sum of the counts. Its caller knows that the shape fits and the words are there.
     pub fn judge_full(self, words: &[u64], at: usize, total: u64) -> Judged
         requires { ⌜ Fit (self .shape) × (at + 65 ≤ length (now words)) ⌝ }
         ensures { λ r. ⌜ r ≡ verdict (all (fullTests (ownOf self) (fullAt (now (words .entry)) at) total)) (sum (bucketCounts (ownOf self) (fullAt (now (words .entry)) at))) ⌝ }

@@ -25,6 +25,7 @@ fn copy(to: &mut [u64], at: usize, from: &[u64], start: usize, n: usize)
 }
 
 impl Held {
+    // Who read the wall's header knows that the shape is valid and that the words of the bucket are there.
     pub fn take(words: &[u64], at: usize, shape: Shape) -> Self
         requires { ⌜ Valid shape × (at + bucketSize (shape .width) (rowsIn shape) ≤ length (now words)) ⌝ }
         ensures { λ r. ⌜ (r .shape ≡ shape) × (viewOf r ≡ readBucket (shape .width) (rowsIn shape) (take (bucketSize (shape .width) (rowsIn shape)) (drop at (now (words .entry))))) ⌝ }
@@ -45,6 +46,7 @@ impl Held {
         Held { shape, bucket }
     }
 
+    // Its caller took it out at the same offset.
     pub fn store(self, words: &mut [u64], at: usize)
         requires { ⌜ Valid (self .shape) × (at + bucketSize (self .shape .width) (rowsIn (self .shape)) ≤ length (now words)) ⌝ }
         ensures { λ _. ⌜ now (words .exit) ≡ splice (now (words .entry)) at (bucketWords (viewOf self)) ⌝ }

@@ -26,26 +26,29 @@ use Rattle.bucket.specs.declared.judge.Judged.the-variants.{Sound, Unsound}
 use Rattle.bucket.specs.Held.{viewOf, ownOf, soundOf, upperSum}
 use Rattle.bucket.specs.Judge.{verdict}
 use Rattle.bucket.specs.Full.{fullAt, fullTests}
-use Rattle.wall.specs.Judge.{fullIn, soundIn, partIn, judgedIn}
+use Rattle.wall.specs.Judge.{Framed, fullIn, soundIn, partIn, judgedIn}
 use Rattle.wall.proofs.Opening.{bool-eq, is-false}
 
 pub unsound : (b : Bool) (n : ℕ) → (T b → ⊥) → Unsound ≡ verdict b n
 unsound b n f = ap (λ b. verdict b n) (is-false b f)
 
-module _ (w : ℕ) (rs : List Row) (total used : ℕ) (b : Bucket) where
-  -- the tests that do not speak of the full-size bucket
-  pub record Framed : Type 0 where
-    pub levels : T (soundLevels 0 (allRows w rs) 64 (levelsOf rs b))
-    pub marks : upperMarks (b .packed) < 2 ^ sum (markWidths rs)
-    pub spare : spareBits (b .packed) ≡ 0
+module _ (h : Held) (total used : ℕ) where
+  abbrev w : ℕ
+  w = h .shape .width
 
-  pub framed : (f : Full) → T (soundBucket w rs total used b f) → Framed
+  abbrev rs : List Row
+  rs = rowsIn (h .shape)
+
+  abbrev b : Bucket
+  b = viewOf h
+
+  pub framed : (f : Full) → T (soundBucket w rs total used b f) → Framed h
   framed f t =
       let s = bucket-facts w rs total used b f t in
       record { levels = sound-levels 0 (allRows w rs) 64 (levelsOf rs b) (s .levels); marks = s .marks; spare = s .spare }
 
   -- without the flag: the number is 0, and the own counts stay within the total
-  pub plain-sound : Framed → flag b ≡ 0 → fullNumber b ≡ 0 → soundBucket w rs total used b emptyFull ≡ leb (sum (ownCounts w rs b)) total
+  pub plain-sound : Framed h → flag b ≡ 0 → fullNumber b ≡ 0 → soundBucket w rs total used b emptyFull ≡ leb (sum (ownCounts w rs b)) total
   plain-sound r e n =
       let os : List ℕ = ownCounts w rs b in
       let q : sum (bucketCounts os emptyFull) ≡ sum os = ap sum (counts-none os (length-own w rs b)) in
@@ -68,7 +71,7 @@ module _ (w : ℕ) (rs : List Row) (total used : ℕ) (b : Bucket) where
   pub flagged-number : (f : Full) → T (soundBucket w rs total used b f) → flag b ≡ 1 → fullNumber b < used
   flagged-number f t e = ltb→lt (fullNumber b) used (subst (λ m. T (byMark m (eqb (fullNumber b) 0) (ltb (fullNumber b) used))) e (bucket-facts w rs total used b f t .number))
 
-  pub flagged-sound : (f : Full) → Framed → flag b ≡ 1 → fullNumber b < used → soundBucket w rs total used b f ≡ all (fullTests (ownCounts w rs b) f total)
+  pub flagged-sound : (f : Full) → Framed h → flag b ≡ 1 → fullNumber b < used → soundBucket w rs total used b f ≡ all (fullTests (ownCounts w rs b) f total)
   flagged-sound f r e n =
       let os : List ℕ = ownCounts w rs b in
       bool-eq (soundBucket w rs total used b f) (all (fullTests os f total))

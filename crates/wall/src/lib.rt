@@ -1,2 +1,4 @@
 pub mod fresh;
 pub mod header;
+pub mod judge;
+pub mod place;

@@ -2,7 +2,7 @@ use borrow.Author.Needs.{needs}
 use mathlib.Core.Path.{_≡_, _∙_}
 use native.Mathlib.Omega.{arith}
 use lib.ListN.{length, length-set}
-use Rattle.bucket.proofs.Stored.{Room, room, stored}
+use Rattle.bucket.proofs.BucketWords.{Room, room, stored}
 use Rattle.bucket.proofs.Held.store.Statement.{statement}
 use Rattle.bucket.proofs.Held.store.Tie as tie
 

@@ -2,7 +2,7 @@ use borrow.Author.Needs.{needs}
 use mathlib.Core.Path.{refl}
 use native.Mathlib.Omega.{arith}
 use lib.ListN.{length, replicate}
-use Rattle.bucket.proofs.Stored.{Room, room, taken}
+use Rattle.bucket.proofs.BucketWords.{Room, room, taken}
 use Rattle.bucket.proofs.Held.take.Statement.{statement}
 use Rattle.bucket.proofs.Held.take.Tie as tie
 

@@ -1,0 +1,47 @@
+use borrow.Author.Needs.{needs}
+use Rattle.wall.proofs.place.full_at.Statement.{statement}
+use Rattle.wall.proofs.place.full_at.Tie as tie
+use Rattle.wall.proofs.place.full_at.Reads as reads
+use Rattle.wall.proofs.place.full_at.Lts as lts
+use Rattle.wall.proofs.header.bucket_length.Reads as bucket-length-reads
+use Rattle.wall.proofs.header.buckets.Reads as buckets-reads
+
+-- src/place.rt:27:11
+buckets-requires : tie.Need-buckets-requires
+buckets-requires c κs = search needs
+
+-- src/place.rt:27:32
+bucket-length-requires : tie.Need-bucket-length-requires
+bucket-length-requires c κs = search needs
+
+-- src/place.rt:27:11
+mul-result : tie.Need-mul-result
+mul-result c = ?
+
+-- src/place.rt:27:59
+mul-result-2 : tie.Need-mul-result-2
+mul-result-2 c = search needs
+
+-- src/place.rt:27:11
+add-result : tie.Need-add-result
+add-result c = ?
+
+-- src/place.rt:27:6
+add-result-2 : tie.Need-add-result-2
+add-result-2 c = ?
+
+-- src/place.rt:23:1
+returns : tie.Need-returns
+returns c = ?
+
+pub full-at-spec : {M : Type 1} → statement M
+full-at-spec =
+    tie.close
+    (tie.spec
+    buckets-requires
+    bucket-length-requires
+    mul-result
+    mul-result-2
+    add-result
+    add-result-2
+    returns)
