@@ -2,24 +2,27 @@
 use mathlib.Core.Path.{_≡_, refl, sym, ap, ap₂, _∙_, subst, subst₂}
 use mathlib.Core.Bool.{Bool, true, false, not}
 use mathlib.Core.List.{List, [], _∷_}
-use Prim.Native.Nat.{ℕ, zero, suc, _+_, _/_, _%_, _^_, _≤_, _<_, zero-le}
+use Prim.Native.Nat.{ℕ, zero, suc, _+_, _*_, _/_, _%_, _^_, _≤_, _<_, zero-le}
 use native.Mathlib.Nat.{le-trans, le-of-eq}
 use native.Mathlib.Omega.{arith}
-use lib.Dec.{T, leb, ltb, eqb, leb→le, le→leb, lt→ltb, ltb→lt, eqb→eq}
+use lib.Dec.{T, leb, ltb, eqb, leb→le, le→leb, lt→ltb, ltb→lt, eqb→eq, lit≤}
 use lib.ListN.{length, getD}
 use Rattle.model.specs.Lists.{sum, all, every, byMark}
 use Rattle.model.specs.Packed.{rank}
-use Rattle.model.specs.Shapes.{Row, allRows, markWidths}
+use Rattle.model.specs.Shapes.{Row, allRows, rowsOf, counterBits, markWidths}
 use Rattle.model.specs.Levels.{soundLevels}
-use Rattle.model.specs.Walls.{Bucket, Full, emptyFull, parse}
+use Rattle.model.specs.Walls.{Bucket, Full, bucketsIn, bucketLength, emptyFull, parse}
 use Rattle.model.specs.Sound.{upperMarks, flag, spareBits, fullNumber, levelsOf, ownCounts, bucketCounts, soundPlace, soundBucket, fullOf}
 use Rattle.model.proofs.Crowding.{T-true}
 use Rattle.model.proofs.Tests.{every-at, every-of}
 use Rattle.model.proofs.Tools.{all-tests, tests-all}
 use Rattle.model.proofs.Headers.{eq-eqb}
-use Rattle.model.proofs.Buckets.{SoundB, bucket-facts, facts-bucket, levels-sound, sound-levels, counts-none, length-own, none-places}
+use Rattle.model.proofs.Buckets.{SoundB, bucket-facts, facts-bucket, levels-sound, sound-levels, counts-none, length-own, none-places, flag-le}
 use Rattle.layout.specs.declared.Wall.{Wall}
-use Rattle.layout.specs.Shapes.{rowsIn}
+use Rattle.layout.specs.Shapes.{rowsIn, shapeOf}
+use Rattle.layout.specs.Views.{headerOf}
+use Rattle.layout.proofs.Shapes.{table-rows, counter-sum, widthsOf}
+use Rattle.bucket.specs.Shapes.{Fit}
 use Rattle.bucket.specs.declared.Held.{Held}
 use Rattle.bucket.specs.declared.judge.Judged.{Judged}
 use Rattle.bucket.specs.declared.judge.Judged.the-variants.{Sound, Unsound}
@@ -27,7 +30,9 @@ use Rattle.bucket.specs.Held.{viewOf, ownOf, soundOf, upperSum}
 use Rattle.bucket.specs.Judge.{verdict}
 use Rattle.bucket.specs.Full.{fullAt, fullTests}
 use Rattle.wall.specs.Judge.{Framed, fullIn, soundIn, partIn, judgedIn}
-use Rattle.wall.proofs.Opening.{bool-eq, is-false}
+use Rattle.wall.specs.Headers.{Known, Open}
+use Rattle.wall.proofs.Opening.{bool-eq, is-false, known-valid}
+use Rattle.wall.proofs.Places.{open-known, open-limits, full-within, full-here}
 
 pub unsound : (b : Bool) (n : ℕ) → (T b → ⊥) → Unsound ≡ verdict b n
 unsound b n f = ap (λ b. verdict b n) (is-false b f)
@@ -89,3 +94,76 @@ module _ (h : Held) (total used : ℕ) where
             places = every-at 64 (soundPlace os f) (a .1 .0);
             most = leb→le (sum (bucketCounts os f)) total (a .1 .1 .0);
           }))
+
+-- ---- as the code goes: a bucket in hand of an open wall
+
+widths-18 : (p : ℕ) → 3 ≤ p → p ≤ 5 → sum (widthsOf (rowsOf p)) ≤ 18
+widths-18 zero h k = absurd (omega arith)
+widths-18 (suc zero) h k = absurd (omega arith)
+widths-18 (suc (suc zero)) h k = absurd (omega arith)
+widths-18 (suc (suc (suc zero))) h k = lit≤ tt
+widths-18 (suc (suc (suc (suc zero)))) h k = lit≤ tt
+widths-18 (suc (suc (suc (suc (suc zero))))) h k = lit≤ tt
+widths-18 (suc (suc (suc (suc (suc (suc n)))))) h k = absurd (omega arith)
+
+-- a shape of the table fits
+pub table-fits : (v : Wall) → Known v → Fit (shapeOf (v .shape) (v .width))
+table-fits v k = record {
+  valid = known-valid v k;
+  narrow = omega (
+    arith,
+    ap (counterBits (v .width)) (table-rows (v .shape) (v .width) (k .shape-low) (k .shape-high)) ∙ counter-sum (v .width) (rowsOf (v .shape)),
+    widths-18 (v .shape) (k .shape-low) (k .shape-high),
+    k .width-high,
+  );
+}
+
+-- no flag: the full-size bucket is an empty one
+pub no-full : (ws : List ℕ) (h : Held) → flag (viewOf h) ≡ 0 → fullIn ws h ≡ emptyFull
+no-full ws h e = ap (λ m. byMark m emptyFull (getD (parse ws .fulls) (fullNumber (viewOf h)) emptyFull)) e
+
+module _ (ws : List ℕ) (v : Wall) (o : Open ws v) (h : Held) (e : h .shape ≡ shapeOf (v .shape) (v .width)) where
+  pub held-fits : Fit (h .shape)
+  held-fits = subst Fit (sym e) (table-fits v (open-known ws v o))
+
+  -- where its number is in use the full-size bucket stands at its offset
+  pub full-place : (at : ℕ) → flag (viewOf h) ≡ 1 → fullNumber (viewOf h) < v .used → at ≡ 4 + (bucketsIn (headerOf v) * bucketLength (headerOf v) + fullNumber (viewOf h) * 65)
+      → (at + 65 ≤ length ws) × (fullAt ws at ≡ fullIn ws h)
+  full-place at f n q =
+      let j : fullNumber (viewOf h) < v .full = le-trans n (open-limits ws v o .spare-full) in (
+        omega (arith, full-within ws v o (fullNumber (viewOf h)) j),
+        ap (fullAt ws) q ∙ full-here ws v o (fullNumber (viewOf h)) j ∙ sym (ap (λ m. byMark m emptyFull (getD (parse ws .fulls) (fullNumber (viewOf h)) emptyFull)) f),
+      )
+
+  pub not-framed : (Framed h → ⊥) → Unsound ≡ judgedIn ws v h
+  not-framed z = unsound (soundIn ws v h) (partIn ws h) (λ t. z (framed h (v .total) (v .used) (fullIn ws h) t))
+
+  pub judged-plain : (upper : ℕ) (r : Judged) → flag (viewOf h) ≡ 0 → upper ≡ upperSum h
+      → r ≡ verdict (soundBucket (h .shape .width) (rowsIn (h .shape)) (v .total) (v .used) (viewOf h) emptyFull) upper → r ≡ judgedIn ws v h
+  judged-plain upper r f u q =
+      q ∙ ap₂ (λ k n. verdict (soundBucket (h .shape .width) (rowsIn (h .shape)) (v .total) (v .used) (viewOf h) k) n) (sym (no-full ws h f))
+      (u ∙ sym (ap (λ m. byMark m (upperSum h) (sum (bucketCounts (ownOf h) (fullIn ws h)))) f))
+
+  pub judged-number : flag (viewOf h) ≡ 1 → v .used ≤ fullNumber (viewOf h) → Unsound ≡ judgedIn ws v h
+  judged-number f l = unsound (soundIn ws v h) (partIn ws h) (λ t. omega (arith, flagged-number h (v .total) (v .used) (fullIn ws h) t f))
+
+  pub judged-flagged : (at : ℕ) (r : Judged) → Framed h → flag (viewOf h) ≡ 1 → fullNumber (viewOf h) < v .used
+      → at ≡ 4 + (bucketsIn (headerOf v) * bucketLength (headerOf v) + fullNumber (viewOf h) * 65)
+      → r ≡ verdict (all (fullTests (ownOf h) (fullAt ws at) (v .total))) (sum (bucketCounts (ownOf h) (fullAt ws at))) → r ≡ judgedIn ws v h
+  judged-flagged at r k f n q z =
+      let p : fullAt ws at ≡ fullIn ws h = full-place at f n q .1 in
+      z ∙ ap (λ g. verdict (all (fullTests (ownOf h) g (v .total))) (sum (bucketCounts (ownOf h) g))) p
+      ∙ ap₂ verdict (sym (flagged-sound h (v .total) (v .used) (fullIn ws h) k f n)) (sym (ap (λ m. byMark m (upperSum h) (sum (bucketCounts (ownOf h) (fullIn ws h)))) f))
+
+-- the flag is one bit
+pub flag-one : (b : Bucket) → (flag b ≡ 0 → ⊥) → flag b ≡ 1
+flag-one b f = go (flag b) (flag-le b) f
+  where
+    go : (m : ℕ) → m ≤ 1 → (m ≡ 0 → ⊥) → m ≡ 1
+    go zero l f = absurd (f refl)
+    go (suc zero) l f = refl
+    go (suc (suc m)) l f = absurd (omega arith)
+
+-- without the flag the counts are the bucket's own
+pub plain-counts : (ws : List ℕ) (h : Held) → flag (viewOf h) ≡ 0 → bucketCounts (ownOf h) (fullIn ws h) ≡ ownOf h
+plain-counts ws h e = ap (bucketCounts (ownOf h)) (no-full ws h e) ∙ counts-none (ownOf h) (length-own (h .shape .width) (rowsIn (h .shape)) (viewOf h))
