@@ -2,3 +2,4 @@ pub mod Opening
 pub mod Starting
 pub mod Places
 pub mod Soundness
+pub mod Finding

@@ -81,19 +81,19 @@ module _ (h : Held) (total used : ℕ) where
       let os : List ℕ = ownCounts w rs b in
       bool-eq (soundBucket w rs total used b f) (all (fullTests os f total))
       (λ t.
-          let s = bucket-facts w rs total used b f t in
-          tests-all (fullTests os f total) (le→leb 1 (rank (f .moved) 64) (le-trans (le-of-eq (sym e)) (s .some)), (every-of 64 (soundPlace os f) (s .places), (le→leb (sum (bucketCounts os f)) total (s .most), tt))))
+      let s = bucket-facts w rs total used b f t in
+      tests-all (fullTests os f total) (le→leb 1 (rank (f .moved) 64) (le-trans (le-of-eq (sym e)) (s .some)), (every-of 64 (soundPlace os f) (s .places), (le→leb (sum (bucketCounts os f)) total (s .most), tt))))
       (λ t.
-          let a = all-tests (fullTests os f total) t in
-          facts-bucket w rs total used b f (record {
-            levels = levels-sound 0 (allRows w rs) 64 (levelsOf rs b) (r .levels);
-            marks = r .marks;
-            spare = r .spare;
-            number = subst (λ m. T (byMark m (eqb (fullNumber b) 0) (ltb (fullNumber b) used))) (sym e) (lt→ltb (fullNumber b) used n);
-            some = le-trans (le-of-eq e) (leb→le 1 (rank (f .moved) 64) (a .0));
-            places = every-at 64 (soundPlace os f) (a .1 .0);
-            most = leb→le (sum (bucketCounts os f)) total (a .1 .1 .0);
-          }))
+      let a = all-tests (fullTests os f total) t in
+      facts-bucket w rs total used b f (record {
+        levels = levels-sound 0 (allRows w rs) 64 (levelsOf rs b) (r .levels);
+        marks = r .marks;
+        spare = r .spare;
+        number = subst (λ m. T (byMark m (eqb (fullNumber b) 0) (ltb (fullNumber b) used))) (sym e) (lt→ltb (fullNumber b) used n);
+        some = le-trans (le-of-eq e) (leb→le 1 (rank (f .moved) 64) (a .0));
+        places = every-at 64 (soundPlace os f) (a .1 .0);
+        most = leb→le (sum (bucketCounts os f)) total (a .1 .1 .0);
+      }))
 
 -- ---- as the code goes: a bucket in hand of an open wall
 

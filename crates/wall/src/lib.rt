@@ -1,4 +1,5 @@
 pub mod fresh;
 pub mod header;
 pub mod judge;
+pub mod lookup;
 pub mod place;

@@ -17,7 +17,7 @@ use Rattle.bucket.proofs.Held.within.Reads as within-reads
 
 -- src/judge.rt:24:9
 returns : tie.Need-returns
-returns c = 
+returns c =
     let a = c .before .args in
     unsound (soundBucket (a .held .shape .width) (rowsIn (a .held .shape)) (a .v .total) (a .v .used) (viewOf (a .held)) emptyFull) (a .upper) (λ t. c .if1 .taken (plain-number (a .held) (a .v .total) (a .v .used) emptyFull t (c .before .pre .2)))
 
@@ -27,14 +27,14 @@ within-requires c κs = search needs
 
 -- src/judge.rt:27:9
 returns-2 : tie.Need-returns-2
-returns-2 c = 
+returns-2 c =
     let s = c .before .before .before in
     let a = s .args in
     sym (ap (λ b. verdict b (a .upper)) (plain-sound (a .held) (a .v .total) (a .v .used) (s .pre .1) (s .pre .2) (c .before .before .if1 .left) ∙ sym (c .before .within .ensures) ∙ c .if2 .taken))
 
 -- src/judge.rt:18:1
 returns-3 : tie.Need-returns-3
-returns-3 c = 
+returns-3 c =
     let s = c .before .before .before in
     let a = s .args in
     sym (ap (λ b. verdict b (a .upper)) (plain-sound (a .held) (a .v .total) (a .v .used) (s .pre .1) (s .pre .2) (c .before .before .if1 .left) ∙ sym (c .before .within .ensures) ∙ c .if2 .left))

@@ -28,7 +28,7 @@ of-requires c κs = let s = c .before .before in let k = open-known (s .args .wo
 
 -- src/place.rt:35:5
 take-requires : tie.Need-take-requires
-take-requires c κs = 
+take-requires c κs =
     let s = c .before .before .before in
     let v = s .args .v in
     let ws = s .args .words .now in
@@ -37,7 +37,7 @@ take-requires c κs =
 
 -- src/place.rt:31:1
 returns : tie.Need-returns
-returns c = 
+returns c =
     let s = c .before .before .before .before in
     let v = s .args .v in
     let ws = s .args .words .now in

@@ -1,0 +1,27 @@
+use answer::Answer;
+use bucket::judge::Judged;
+ghost use mathlib.Core.Path.{_≡_};
+ghost use Rattle.answer.specs.Answers.{outcomeOf};
+ghost use Rattle.model.specs.Calls as model;
+use crate::header;
+use crate::header::Opened;
+use crate::judge;
+use crate::place;
+
+// The count of a flow.
+pub fn lookup(words: &[u64], flow: u64) -> Answer
+    ensures { λ r. ⌜ outcomeOf r (now (words .entry)) ≡ model.lookup (now (words .entry)) flow ⌝ }
+{
+    let Opened::Good(v) = header::open(words) else {
+        return Answer::refused(7);
+    };
+    if packed::pow2(v.bits) <= flow {
+        return Answer::refused(8);
+    }
+    let s = slot::reversed(v.bits, flow);
+    let held = place::take(words, v, s / 64);
+    let Judged::Sound(_) = judge::judge(words, v, held) else {
+        return Answer::refused(9);
+    };
+    Answer::done(judge::count(words, v, held, s % 64))
+}
