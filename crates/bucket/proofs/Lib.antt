@@ -10,3 +10,9 @@ pub mod BucketWords
 pub mod Fulls
 pub mod Verdicts
 pub mod Places
+pub mod Encoded
+pub mod Growing
+pub mod Raising
+pub mod Stored
+pub mod Stepping
+pub mod Rule

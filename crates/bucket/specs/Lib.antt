@@ -3,3 +3,4 @@ pub mod Held
 pub mod Judge
 pub mod Full
 pub mod Sums
+pub mod Grow

@@ -2,6 +2,7 @@ use layout::Bucket;
 use layout::Shape;
 
 pub mod full;
+pub mod grow;
 pub mod judge;
 pub mod read;
 pub mod sums;
