@@ -1,0 +1,6 @@
+pub mod Table
+pub mod One
+pub mod Own
+pub mod Laid
+pub mod Two
+pub mod Three

@@ -1,16 +1,20 @@
 -- Demand 2: lookup and increment do exactly what the scheme and the layout say.
 use mathlib.Core.Logic.{_≢_}
 use mathlib.Core.Path.{_≡_}
-use mathlib.Core.List.{List}
+use mathlib.Core.List.{List, [], _∷_, _++_}
 use Prim.Native.Nat.{ℕ, _+_, _^_, _<_}
-use Rattle.model.specs.Walls.{Header, Wall, flows, bucketsIn, withTotals, wordAt, parse, emptyFull}
+use Rattle.model.specs.Walls.{Wall, flows, bucketsIn, withTotals, parse}
 use Rattle.model.specs.Sound.{flag, fullNumber, bucketAt, ownAt, countsAt, fullFor, movedAt, fullCount, count}
 use Rattle.model.specs.Calls.{Outcome, Clear, bucketRefusals, stepRefusals, holding, overflowed, lookup, increment, check}
-use mathlib.Core.List.{_++_}
 use lib.ListN.{getD}
 
 abbrev pub Accepted : List ℕ → Type 0
 Accepted ws = check ws .number ≡ 0
+
+-- every word is one of 64 bits, as the words of a slice are
+abbrev pub Words : List ℕ → Type 0
+Words [] = Unit {0}
+Words (w ∷ ws) = (w < 2 ^ 64) × Words ws
 
 -- what an accepted increment of flow y leaves of a wall that the check accepts: one count and the total one more, every other count as it
 -- was, and a wall that the check accepts
@@ -38,8 +42,8 @@ pub record Alike (ws us : List ℕ) : Type 0 where
 pub record DemandTwo : Type 0 where
   pub reads : (ws : List ℕ) (y : ℕ) → Accepted ws → y < flows (parse ws .header) → lookup ws y ≡ record { number = 0; value = count (parse ws) y; words = ws }
   pub raises : (ws : List ℕ) (y : ℕ) → Accepted ws → increment ws y .number ≡ 0 → Raised ws y (increment ws y)
-  pub laid : (ws : List ℕ) → Accepted ws → (i : ℕ) → i < bucketsIn (parse ws .header) → Laid (parse ws) i
-  pub same-words : (ws us : List ℕ) → wordAt ws 0 < 2 ^ 64 → wordAt us 0 < 2 ^ 64 → Accepted ws → Accepted us → Alike ws us → ws ≡ us
+  pub laid : (ws : List ℕ) → Words ws → Accepted ws → (i : ℕ) → i < bucketsIn (parse ws .header) → Laid (parse ws) i
+  pub same-words : (ws us : List ℕ) → Words ws → Words us → Accepted ws → Accepted us → Alike ws us → ws ≡ us
   -- on any words whose own bucket is sound, accepted by the check or not
   pub own-reads : (ws : List ℕ) (y : ℕ) → Clear (bucketRefusals ws y) → lookup ws y ≡ record { number = 0; value = count (parse ws) y; words = ws }
   pub own-raises : (ws : List ℕ) (y : ℕ) → Clear (bucketRefusals ws y ++ stepRefusals (parse ws) y)
