@@ -3,3 +3,5 @@ pub mod Starting
 pub mod Places
 pub mod Soundness
 pub mod Finding
+pub mod Writing
+pub mod Raising

@@ -11,7 +11,8 @@ use Rattle.model.specs.Lists.{sum, all, every, byMark}
 use Rattle.model.specs.Packed.{rank}
 use Rattle.model.specs.Shapes.{Row, allRows, rowsOf, counterBits, markWidths}
 use Rattle.model.specs.Levels.{soundLevels}
-use Rattle.model.specs.Walls.{Bucket, Full, bucketsIn, bucketLength, emptyFull, parse}
+use Rattle.model.specs.Walls.{Bucket, Full, bucketsIn, bucketLength, countEnd, emptyFull, parse}
+use lib.Pow.{pow-mono}
 use Rattle.model.specs.Sound.{upperMarks, flag, spareBits, fullNumber, levelsOf, ownCounts, bucketCounts, soundPlace, soundBucket, fullOf}
 use Rattle.model.proofs.Crowding.{T-true}
 use Rattle.model.proofs.Tests.{every-at, every-of}
@@ -167,3 +168,11 @@ flag-one b f = go (flag b) (flag-le b) f
 -- without the flag the counts are the bucket's own
 pub plain-counts : (ws : List ℕ) (h : Held) → flag (viewOf h) ≡ 0 → bucketCounts (ownOf h) (fullIn ws h) ≡ ownOf h
 plain-counts ws h e = ap (bucketCounts (ownOf h)) (no-full ws h e) ∙ counts-none (ownOf h) (length-own (h .shape .width) (rowsIn (h .shape)) (viewOf h))
+
+-- the counts of an open wall are small
+pub count-end-most : (ws : List ℕ) (v : Wall) → Open ws v → countEnd (headerOf v) ≤ 2 ^ 47
+count-end-most ws v o =
+    let k = open-known ws v o in
+    let n : counterBits (v .width) (rowsOf (v .shape)) ≤ 47 =
+    subst (λ n. n ≤ 47) (ap (counterBits (v .width)) (table-rows (v .shape) (v .width) (k .shape-low) (k .shape-high))) (table-fits v k .narrow) in
+    pow-mono n
