@@ -1,7 +1,7 @@
 -- The levels of given values: what a counter that comes in or rises makes of them is the levels of the values with it, and there is
 -- room exactly where these fit.
 use mathlib.Core.Path.{_≡_, refl, sym, ap, _∙_}
-use mathlib.Core.Bool.{Bool, true, false, _&&_}
+use mathlib.Core.Bool.{Bool, true, _&&_}
 use mathlib.Core.Logic.{_↔_}
 use mathlib.Core.List.{List, [], _∷_}
 use Prim.Native.Nat.{ℕ, zero, suc, _+_, _*_, _/_, _%_, _^_, _≤_, _<_}
@@ -15,7 +15,7 @@ use lib.Pow.{pow-pos, shr-mono, split}
 use Rattle.model.specs.Lists.{byMark}
 use Rattle.model.specs.Packed.{pack, putIn, replaced}
 use Rattle.model.specs.Shapes.{Row}
-use Rattle.model.specs.Levels.{Level, level, sign, keep, nonzero, parts, uppers, marks, onward, encode}
+use Rattle.model.specs.Levels.{level, sign, keep, nonzero, parts, uppers, marks, onward, encode}
 use Rattle.model.proofs.Lists.{insert, map-insert, length-insert}
 use Rattle.model.proofs.Packing.{pack-set, pack-insert}
 use Rattle.model.proofs.Ranks.{rankIn, rank-le, rank-lt, nonzero-insert-zero, nonzero-rank, below-sign, sign-zero, sign-pos, sign-one}

@@ -1,9 +1,9 @@
 -- One level of the walk by which a counter comes into the upper levels.
 use mathlib.Core.Path.{_≡_, refl, sym, ap, _∙_, subst}
-use mathlib.Core.Bool.{Bool, true, false, not}
+use mathlib.Core.Bool.{Bool, true, false}
 use mathlib.Core.List.{List, [], _∷_}
 use Prim.Native.Nat.{ℕ, zero, suc, _+_, _-_, _*_, _/_, _%_, _^_, _≤_, _<_}
-use native.Mathlib.Nat.{le-refl, lt-of-lt-of-le, mod-lt, zero-div, zero-mod, zero-mul, zero-add, mul-le-mul-left, mul-suc, div-eq-of-lt, one-mul, not-suc-le-zero, add-comm, div-lt-iff-lt-mul}
+use native.Mathlib.Nat.{le-refl, lt-of-lt-of-le, mod-lt, zero-div, zero-mod, zero-mul, zero-add, mul-le-mul-left, mul-suc, div-eq-of-lt, one-mul, not-suc-le-zero, div-lt-iff-lt-mul}
 use native.Mathlib.Numerals.{add-one, sub-one}
 use native.Mathlib.Omega.{arith}
 use lib.Dec.{T, ltb, lt→ltb}
@@ -15,7 +15,7 @@ use lib.Count.{ones, ones-cat}
 use Rattle.model.specs.Lists.{byMark}
 use Rattle.model.specs.Packed.{putIn, rank}
 use Rattle.model.specs.Shapes.{Row, counterBits}
-use Rattle.model.specs.Levels.{Level, level, sign, soundLevels}
+use Rattle.model.specs.Levels.{Level, level, soundLevels}
 use Rattle.model.proofs.Packing.{rank-ones}
 use Rattle.model.proofs.Ranks.{sign-one}
 use Rattle.model.proofs.Coding.{Sound}

@@ -1,7 +1,7 @@
 -- One level of the walk by which a counter of the upper levels comes to a larger value.
 use mathlib.Core.Path.{_≡_, refl, sym, ap, _∙_}
-use mathlib.Core.Bool.{Bool, true, false}
-use mathlib.Core.List.{List, [], _∷_}
+use mathlib.Core.Bool.{Bool, true}
+use mathlib.Core.List.{List, _∷_}
 use Prim.Native.Nat.{ℕ, zero, suc, _+_, _-_, _*_, _/_, _%_, _^_, _≤_, _<_}
 use native.Mathlib.Nat.{le-refl, le-trans, lt-of-lt-of-le, mod-lt, mul-le-mul-left, mul-suc, one-mul, not-suc-le-zero}
 use native.Mathlib.Numerals.{add-one, sub-one}
@@ -11,10 +11,9 @@ use lib.ListN.{getD, set, length}
 use lib.Seq.{getD-set-same}
 use lib.Pow.{pow-mono, pow-pos, split}
 use lib.Count.{ones, ones-cat, ones-step}
-use Rattle.model.specs.Lists.{byMark}
 use Rattle.model.specs.Packed.{bit, rank, replaced}
 use Rattle.model.specs.Shapes.{counterBits}
-use Rattle.model.specs.Levels.{Level, level, soundLevels}
+use Rattle.model.specs.Levels.{level}
 use Rattle.model.proofs.Packing.{rank-ones}
 use Rattle.model.proofs.AcrossWords.{put-adds}
 use Rattle.packed.proofs.Words.{field-le, field-lt}

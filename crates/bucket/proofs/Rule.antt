@@ -1,14 +1,13 @@
 -- The document's own rule of an increment: a count that rises by one leaves the levels that the carry gives, entries and marks moved
 -- together at every level, and it fits where the level that the counter would come into has an entry free.
 use mathlib.Core.Path.{_≡_, sym, _∙_, subst}
-use mathlib.Core.Bool.{Bool, not}
+use mathlib.Core.Bool.{Bool}
 use mathlib.Core.Logic.{_↔_}
 use Prim.Native.Nat.{ℕ, _+_, _^_, _<_}
 use lib.Dec.{T}
-use lib.ListN.{getD, set}
+use lib.ListN.{getD}
 use Rattle.model.specs.Lists.{sum}
 use Rattle.model.specs.Shapes.{allRows, counterBits}
-use Rattle.model.specs.Levels.{crowded}
 use Rattle.model.specs.Growing.{incremented, hasRoom}
 use Rattle.model.specs.Sound.{levelsOf}
 use Rattle.model.specs.Calls.{fromLevels}

@@ -1,6 +1,6 @@
 use borrow.Author.Needs.{needs}
 use mathlib.Core.Path.{_≡_}
-use Prim.Native.Nat.{ℕ, _+_, _*_, _/_, _%_, _^_, _<_}
+use Prim.Native.Nat.{ℕ, _/_, _%_, _^_}
 use native.Mathlib.Nat.{mod-lt}
 use native.Mathlib.Omega.{arith}
 use lib.ListN.{length, getD, take}
@@ -15,17 +15,10 @@ use Rattle.bucket.proofs.Stored.{first-fits, take-replaced}
 use Rattle.bucket.proofs.Stepping.{sound-uppers, high-fits, refused, step-low, step-on}
 use Rattle.bucket.proofs.Held.raise.Statement.{statement}
 use Rattle.bucket.proofs.Held.raise.Tie as tie
-use Rattle.bucket.proofs.Held.raise.Reads as reads
-use Rattle.bucket.proofs.Held.raise.Lts as lts
-use Rattle.bucket.proofs.grow.raise_above.Reads as raise-above-reads
-use Rattle.packed.proofs.across.put_first.Reads as put-first-reads
-use Rattle.packed.proofs.pow2.Reads as pow2-reads
 
--- src/grow.rt:158:69
 pow2-requires : tie.Need-pow2-requires
 pow2-requires c κs = omega (arith, facts (c .before .before .before .args .self .shape) (c .before .before .before .pre .0 .valid) .first)
 
--- src/grow.rt:158:61
 four : (c : tie.Start) → length (c .args .self .bucket .upper) ≡ 4
 four c = search needs
 
@@ -55,18 +48,15 @@ first c =
 rem-put-first : tie.Need-rem-put-first
 rem-put-first c = search needs
 
--- src/grow.rt:158:13
 put-first-requires : tie.Need-put-first-requires
 put-first-requires c κs =
     let s = c .before .before .before .before in
     let t = facts (s .args .self .shape) (s .pre .0 .valid) .first in
     (s .pre .1, t .0, t .1, rw (c .pow2 .ensures .0) (mod-lt (s .args .value) (pow-pos (s .args .self .shape .width))))
 
--- src/grow.rt:159:20
 shr-high : tie.Need-shr-high
 shr-high c = omega (arith, facts (c .before .before .before .before .before .args .self .shape) (c .before .before .before .before .before .pre .0 .valid) .first)
 
--- src/grow.rt:163:13
 returns : tie.Need-returns
 returns c =
     let s = c .before .before .before .before .before .before in
@@ -75,14 +65,12 @@ returns c =
     step-low (s .args .self) (p .0) (four s) (p .2) (s .args .place) (s .args .value) (p .1) (p .3) (p .4) (p .5)
     (d .put-first .result) (stored d .1) (stored d .0) (first d) (c .if1 .taken)
 
--- src/grow.rt:165:13
 raise-above-requires : tie.Need-raise-above-requires
 raise-above-requires c κs =
     let s = c .before .before .before .before .before .before in
     let p = s .pre in
     (p .0, p .1, sound-uppers (s .args .self) (p .0) (four s) (p .2), high-fits (s .args .self) (p .0) (four s) (p .2) (s .args .place) (s .args .value) (p .1) (p .3) (p .4))
 
--- src/grow.rt:170:13
 carried-four : (c : tie.After-raise-above) → length (c .raise-above .result .upper) ≡ 4
 carried-four c = search needs
 
@@ -96,7 +84,6 @@ returns-2 c =
     (d .put-first .result) (stored d .1) (stored d .0) (first d) (on .result .marks) (on .result .upper) (on .result .packed)
     (omega (arith, c .before .before .before .if1 .left)) (carried-four (c .before .before)) (rw (c .before .if2 .taken) at (on .ensures))
 
--- src/grow.rt:150:5
 returns-3 : tie.Need-returns-3
 returns-3 c =
     let s = c .before .before .before .before .before .before .before .before in

@@ -1,11 +1,11 @@
 use borrow.Author.Needs.{needs}
-use mathlib.Core.Path.{_≡_, sym, _∙_}
-use Prim.Native.Nat.{ℕ, _+_, _-_, _*_, _/_, _%_, _^_, _≤_, _<_}
+use mathlib.Core.Path.{_≡_}
+use Prim.Native.Nat.{ℕ, _+_, _-_, _%_, _^_, _≤_, _<_}
 use native.Mathlib.Nat.{mod-lt, lt-of-lt-of-le}
 use native.Mathlib.Omega.{arith}
 use lib.Dec.{lit<, T}
 use lib.ListN.{getD, length}
-use lib.Pow.{pow-pos, pow-mono}
+use lib.Pow.{pow-mono}
 use Rattle.layout.specs.Shapes.{entriesAt, widthAt}
 use Rattle.bucket.proofs.Ahead.{marksAhead, ahead, at-next, here, few, marks-next}
 use Rattle.bucket.proofs.Growing.{Used, used, marks-used, sound-next, high-lt, no-room, entry-free, cells-free, marks-lt, shifted-lt, above-lt, NextIn, entered-last, entered-stop, entered-on, rank-count}

@@ -1,6 +1,6 @@
 use borrow.Author.Needs.{needs}
 use mathlib.Core.Path.{_≡_, sym, _∙_}
-use Prim.Native.Nat.{ℕ, _+_, _-_, _*_, _/_, _%_, _^_, _≤_, _<_}
+use Prim.Native.Nat.{ℕ, _+_, _-_, _%_, _^_, _<_}
 use native.Mathlib.Nat.{mod-lt}
 use native.Mathlib.Omega.{arith}
 use lib.Dec.{T}
@@ -16,7 +16,6 @@ use Rattle.bucket.proofs.grow.raise_from.Reads as raise-from
 use Rattle.bucket.proofs.grow.raise_from.Kinds as raise-from-kinds
 use Rattle.bucket.proofs.grow.+raise_from.Lts-raise_from as raise-from-lts
 use Rattle.bucket.proofs.grow.enter_from.Reads as enter-from-reads
-use Rattle.bucket.proofs.grow.joined.Reads as joined-reads
 use Rattle.bucket.proofs.grow.grown.Reads as grown-reads
 use Rattle.bucket.proofs.grow.with_level.Reads as with-level-reads
 use Rattle.packed.proofs.bit.Reads as bit-reads

@@ -1,5 +1,5 @@
 use borrow.Author.Needs.{needs}
-use mathlib.Core.Path.{_≡_, sym, _∙_}
+use mathlib.Core.Path.{sym, _∙_}
 use Prim.Native.Nat.{ℕ, _<_}
 use lib.Count.{ones}
 use Rattle.model.specs.Packed.{rank}
@@ -10,39 +10,25 @@ use Rattle.bucket.proofs.Raising.{rank-lt}
 use Rattle.bucket.proofs.Stepping.{carried-in, carried-up}
 use Rattle.bucket.proofs.grow.raise_above.Statement.{statement}
 use Rattle.bucket.proofs.grow.raise_above.Tie as tie
-use Rattle.bucket.proofs.grow.raise_above.Reads as reads
-use Rattle.bucket.proofs.grow.raise_above.Lts as lts
-use Rattle.bucket.proofs.grow.enter_from.Reads as enter-from-reads
-use Rattle.bucket.proofs.grow.raise_from.Reads as raise-from-reads
-use Rattle.packed.proofs.bit.Reads as bit-reads
-use Rattle.packed.proofs.count.Reads as count-reads
-use Rattle.packed.proofs.rank.Reads as rank-reads
-use Rattle.packed.proofs.set_mark.Reads as set-mark-reads
 
--- src/grow.rt:136:9
 rank-requires : tie.Need-rank-requires
 rank-requires c κs = search needs
 
--- src/grow.rt:137:8
 bit-requires : tie.Need-bit-requires
 bit-requires c κs = search needs
 
--- src/grow.rt:138:75
 count-requires : tie.Need-count-requires
 count-requires c κs = search needs
 
--- src/grow.rt:138:13
 enter-from-requires : tie.Need-enter-from-requires
 enter-from-requires c κs =
     let s = c .before .before .before .before .before in
     let p = s .pre in
     (at-start (p .0), facts (s .args .shape) (p .0 .valid) .levels .0, rw (c .count .ensures .0) (p .2), rw (c .count .ensures .0, c .before .before .before .rank .ensures .0) (rank-count (s .args .bucket .marks) (s .args .place)), p .3)
 
--- src/grow.rt:140:46
 set-mark-requires : tie.Need-set-mark-requires
 set-mark-requires c κs = search needs
 
--- src/grow.rt:140:9
 returns : tie.Need-returns
 returns c =
     let s = c .before .before .before .before .before .before .before .before in
@@ -53,7 +39,6 @@ returns c =
     (rw (c .before .before .before .count .ensures .0) at (on .ensures .0))
     (rw (c .before .before .before .before .before .before .rank .ensures .0) at (on .ensures .1))
 
--- src/grow.rt:142:9
 raise-from-requires : tie.Need-raise-from-requires
 raise-from-requires c κs =
     let s = c .before .before .before .before in
@@ -62,7 +47,6 @@ raise-from-requires c κs =
     let n : rank m (s .args .place) < ones m = rank-lt m (s .args .place) (λ e. c .if1 .left (c .before .bit .ensures ∙ e)) in
     (at-start (p .0), facts (s .args .shape) (p .0 .valid) .levels .0, rw (c .before .before .rank .ensures .0) (record { number = ones m; sound = p .2; within = n }), p .3)
 
--- src/grow.rt:130:1
 returns-2 : tie.Need-returns-2
 returns-2 c =
     let s = c .before .before .before .before .before .before in

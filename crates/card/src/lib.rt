@@ -1,0 +1,34 @@
+use answer::Answer;
+ghost use mathlib.Core.Path.{_≡_};
+ghost use Rattle.answer.specs.Answers.{outcomeOf};
+ghost use Rattle.model.specs.Calls as model;
+
+// The calls over a wall for firmware in C; include/wall.h declares them beside those of the host.
+
+#[no_mangle]
+pub extern "C" fn wall_raise(words: &mut [u64], shape: u64, width: u64, bits: u64, limit: u64, full: u64) -> Answer
+    ensures { λ r. ⌜ outcomeOf r (now (words .exit)) ≡ model.raise shape width bits limit full (now (words .entry)) ⌝ }
+{
+    wall::fresh::raise(words, shape, width, bits, limit, full)
+}
+
+#[no_mangle]
+pub extern "C" fn wall_lookup(words: &[u64], flow: u64) -> Answer
+    ensures { λ r. ⌜ outcomeOf r (now (words .entry)) ≡ model.lookup (now (words .entry)) flow ⌝ }
+{
+    wall::lookup::lookup(words, flow)
+}
+
+#[no_mangle]
+pub extern "C" fn wall_increment(words: &mut [u64], flow: u64) -> Answer
+    ensures { λ r. ⌜ outcomeOf r (now (words .exit)) ≡ model.increment (now (words .entry)) flow ⌝ }
+{
+    wall::increment::increment(words, flow)
+}
+
+#[no_mangle]
+pub extern "C" fn wall_close(words: &mut [u64]) -> Answer
+    ensures { λ r. ⌜ outcomeOf r (now (words .exit)) ≡ model.close (now (words .entry)) ⌝ }
+{
+    wall::fresh::close(words)
+}
