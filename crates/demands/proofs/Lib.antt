@@ -4,3 +4,4 @@ pub mod Own
 pub mod Laid
 pub mod Two
 pub mod Three
+pub mod Starts

@@ -1,0 +1,30 @@
+-- Where walls begin.
+use mathlib.Core.Path.{_≡_, refl, sym, ap, _∙_, subst}
+use mathlib.Core.List.{List, []}
+use Prim.Native.Nat.{ℕ, _^_, _<_}
+use lib.ListN.{length}
+use Rattle.model.specs.Walls.{Header, flows, readHeader, parse}
+use Rattle.model.specs.Calls.{Outcome, asked, raise, close, lookup}
+use Rattle.model.specs.Runs.{run}
+use Rattle.model.proofs.Starts.{raised-words, closed-words}
+use Rattle.demands.specs.DemandThree.{Listed, After}
+use Rattle.demands.specs.Beginnings.{Beginnings}
+use Rattle.demands.proofs.Two.{demand-two}
+use Rattle.demands.proofs.Three.{demand-three}
+
+-- after no increment every flow reads 0
+fresh-reads : (h : Header) (ws : List ℕ) → Listed h ws → (y : ℕ) → y < flows h → lookup ws y ≡ record { number = 0; value = 0; words = ws }
+unfolding run
+fresh-reads h ws l y m =
+    let a : After h [] ws = l .after [] tt refl in
+    demand-two .reads ws y (a .accepted) (subst (λ (g : Header). y < flows g) (sym (a .header)) m)
+    ∙ ap (λ n. record { number = 0; value = n; words = ws }) (a .counts y m)
+
+pub beginnings : Beginnings
+beginnings = record {
+  one-outcome = λ call one other e f. e ∙ sym f;
+  raised = raised-words;
+  closed = closed-words;
+  raised-reads = λ p w b m j ws e. fresh-reads (asked p w b m j) (raise p w b m j ws .words) (demand-three .raised p w b m j ws e);
+  closed-reads = λ ws e. fresh-reads (readHeader ws) (close ws .words) (demand-three .closed ws e);
+}
