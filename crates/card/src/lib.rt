@@ -6,7 +6,14 @@ ghost use Rattle.model.specs.Calls as model;
 // The calls over a wall for firmware in C; include/wall.h declares them beside those of the host.
 
 #[no_mangle]
-pub extern "C" fn wall_raise(words: &mut [u64], shape: u64, width: u64, bits: u64, limit: u64, full: u64) -> Answer
+pub extern "C" fn wall_raise(
+    words: &mut [u64],
+    shape: u64,
+    width: u64,
+    bits: u64,
+    limit: u64,
+    full: u64,
+) -> Answer
     ensures { λ r. ⌜ outcomeOf r (now (words .exit)) ≡ model.raise shape width bits limit full (now (words .entry)) ⌝ }
 {
     wall::fresh::raise(words, shape, width, bits, limit, full)

@@ -7,17 +7,14 @@ ghost use Rattle.answer.specs.Answers.{replyOf};
 mod table;
 
 use answer::Answer;
-use table::reversed_byte;
+use table::reversed_bytes;
 
 // The flow's slot. The slot call shows the requires by its refusals 3 and 8, the wall by its refusals 7 and 8.
 pub fn reversed(bits: u64, flow: u64) -> u64
     requires { ⌜ (bits ≤ 24) × (flow < 2 ^ bits) ⌝ }
     ensures { λ r. ⌜ (r ≡ slot bits flow) × (r < 2 ^ bits) ⌝ }
 {
-    let low = reversed_byte(flow % 256);
-    let middle = reversed_byte((flow >> 8) % 256);
-    let high = reversed_byte((flow >> 16) % 256);
-    let all = low * 65536 + middle * 256 + high;
+    let all = reversed_bytes(flow % 256, (flow >> 8) % 256, (flow >> 16) % 256);
     all >> (24 - bits)
 }
 

@@ -1,5 +1,5 @@
 ghost use mathlib.Core.Path.{_≡_};
-ghost use Prim.Native.Nat.{_<_};
+ghost use Prim.Native.Nat.{_+_, _*_, _<_};
 ghost use Rattle.model.specs.Slots.{slot};
 
 // Entry y is the byte y with its bits in reverse order.
@@ -263,14 +263,18 @@ const REVERSED: [u8; 256] = [
 ];
 
 fn wide(x: u8) -> u64
-    ensures { λ r. ⌜ r ≡ x ⌝ }
+    ensures { λ r. ⌜ (r ≡ x) × (r < 256) ⌝ }
 {
     x as u64
 }
 
-pub fn reversed_byte(y: u64) -> u64
-    requires { ⌜ y < 256 ⌝ }
-    ensures { λ r. ⌜ (r ≡ slot 8 y) × (r < 256) ⌝ }
+// Three bytes, each reversed, the first highest. The table is read as one local, for the compiler writes a constant table to the stack at each use.
+pub fn reversed_bytes(first: u64, second: u64, third: u64) -> u64
+    requires { ⌜ (first < 256) × (second < 256) × (third < 256) ⌝ }
+    ensures { λ r. ⌜ r ≡ slot 8 first * 65536 + slot 8 second * 256 + slot 8 third ⌝ }
 {
-    wide(REVERSED[y as usize])
+    let table = REVERSED;
+    let high = wide(table[first as usize]);
+    let middle = wide(table[second as usize]);
+    high * 65536 + middle * 256 + wide(table[third as usize])
 }
