@@ -1,11 +1,14 @@
 /*
- * The counter store's calls for C: where a flow stands, how far a counter goes, and one word of an image.
+ * The counter store's calls for C.
  *
- * Each call is a function of its arguments alone: it allocates nothing, writes nothing, keeps no pointer and no state, and may be made from any thread.
- * It answers a number and a value. The number is WALL_DONE, or says why the call was refused; where several reasons apply, it is the first of them in the
- * order of the enum below. The value is 0 with every refusal. Every argument is judged at its full 64 bits.
+ * wall_slot, wall_limits and wall_image are the host's: where a flow stands, how far a counter goes, one word of an image. Link with libhost.a.
+ * wall_raise, wall_lookup, wall_increment, wall_check and wall_close are the card's: the calls over a wall. Link with libcard.a. (x86-64 Linux.)
  *
- * Link with libhost.a (x86-64 Linux).
+ * No call allocates, keeps a pointer or has a state of its own. Each answers a number and a value. The number is WALL_DONE, or says why the call was
+ * refused; where several reasons apply, it is the first of them in the order of the enum below. A refusal changes no word, and its value is 0, but for
+ * the number of the bucket that comes with wall_check's WALL_UNSOUND. Every argument is judged at its full 64 bits.
+ *
+ * Two calls over one wall at the same time are the caller's to prevent, unless both only read.
  */
 #ifndef WALL_H
 #define WALL_H
@@ -17,14 +20,21 @@
 extern "C" {
 #endif
 
-/* The numbers that these calls answer. Those between belong to calls that are not here. */
 enum {
     WALL_DONE = 0,
-    WALL_BAD_SHAPE = 1, /* the shape is not 3, 4 or 5 */
-    WALL_BAD_WIDTH = 2, /* the width is over 16 */
-    WALL_BAD_BITS = 3,  /* the bits are outside 6..22 */
-    WALL_NO_WORD = 6,   /* the word is not in the image */
-    WALL_NO_FLOW = 8    /* the flow is not below 2^bits */
+    WALL_BAD_SHAPE = 1,    /* the shape is not 3, 4 or 5 */
+    WALL_BAD_WIDTH = 2,    /* the width is over 16 */
+    WALL_BAD_BITS = 3,     /* the bits are outside 6..22 */
+    WALL_BAD_LIMIT = 4,    /* the limit on the total is 0, or more than a counter holds */
+    WALL_BAD_FULL = 5,     /* more full-size buckets than buckets, or than 4,096 */
+    WALL_NO_WORD = 6,      /* wall_image: the word is not in the image */
+    WALL_BAD_LENGTH = 6,   /* wall_raise: the length is not exact */
+    WALL_BAD_HEADER = 7,   /* the words are no wall: too few, or a header that is not good */
+    WALL_NO_FLOW = 8,      /* the flow is not below 2^bits */
+    WALL_UNSOUND = 9,      /* the bucket is damaged */
+    WALL_AT_LIMIT = 10,    /* the total stands at its limit */
+    WALL_NO_FULL = 12,     /* the bucket must overflow, and all full-size buckets are in use */
+    WALL_UNSOUND_WALL = 13 /* every bucket is sound, the wall is not */
 };
 
 typedef struct {
@@ -58,6 +68,47 @@ wall_answer wall_limits(uint64_t shape, uint64_t width);
  * Answers WALL_DONE and the word, or WALL_NO_WORD.
  */
 wall_answer wall_image(const uint8_t *bytes, size_t length, uint64_t n);
+
+/*
+ * A wall is `length` words that the caller lends: 4 + 2^(bits - 6) * (width + shape + 1) + 65 * full of them. docs/WALL.md has each word. The card's
+ * calls read and write nothing beyond them. Any words may be lent, and any flow number asked for.
+ */
+
+/*
+ * A fresh wall in the words: every word is written, whatever stood there. `limit` is the largest total, from 1 to 2^L - 1 (L as in wall_limits);
+ * `full` is how many full-size buckets it has, at most 2^(bits - 6) and at most 4,096. Width 0 asks for the default and is read as 7.
+ *
+ * Answers WALL_DONE and 0, or WALL_BAD_SHAPE, WALL_BAD_WIDTH, WALL_BAD_BITS, WALL_BAD_LIMIT, WALL_BAD_FULL or WALL_BAD_LENGTH.
+ */
+wall_answer wall_raise(uint64_t *words, size_t length, uint64_t shape, uint64_t width, uint64_t bits, uint64_t limit, uint64_t full);
+
+/*
+ * The count of a flow. Its own bucket alone is judged.
+ *
+ * Answers WALL_DONE and the count, or WALL_BAD_HEADER, WALL_NO_FLOW or WALL_UNSOUND.
+ */
+wall_answer wall_lookup(const uint64_t *words, size_t length, uint64_t flow);
+
+/*
+ * One more of a flow.
+ *
+ * Answers WALL_DONE and the count after it, or WALL_BAD_HEADER, WALL_NO_FLOW, WALL_UNSOUND, WALL_AT_LIMIT or WALL_NO_FULL.
+ */
+wall_answer wall_increment(uint64_t *words, size_t length, uint64_t flow);
+
+/*
+ * The whole wall judged.
+ *
+ * Answers WALL_DONE and 0, WALL_BAD_HEADER, WALL_UNSOUND and the lowest bucket that is damaged, or WALL_UNSOUND_WALL.
+ */
+wall_answer wall_check(const uint64_t *words, size_t length);
+
+/*
+ * The interval ends: the fresh wall of the same header, which is all that has to be good.
+ *
+ * Answers WALL_DONE and 0, or WALL_BAD_HEADER.
+ */
+wall_answer wall_close(uint64_t *words, size_t length);
 
 #ifdef __cplusplus
 }
