@@ -5,3 +5,8 @@ pub mod Soundness
 pub mod Finding
 pub mod Writing
 pub mod Raising
+pub mod Bitmap
+pub mod Holding
+pub mod Tallying
+pub mod Zeros
+pub mod Checking

@@ -1,3 +1,4 @@
 pub mod Headers
 pub mod Judge
 pub mod Step
+pub mod Check

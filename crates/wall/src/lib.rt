@@ -1,3 +1,4 @@
+pub mod check;
 pub mod fresh;
 pub mod header;
 pub mod increment;
