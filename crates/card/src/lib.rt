@@ -34,6 +34,13 @@ pub extern "C" fn wall_increment(words: &mut [u64], flow: u64) -> Answer
 }
 
 #[no_mangle]
+pub extern "C" fn wall_check(words: &[u64]) -> Answer
+    ensures { λ r. ⌜ outcomeOf r (now (words .entry)) ≡ model.check (now (words .entry)) ⌝ }
+{
+    wall::check::check(words)
+}
+
+#[no_mangle]
 pub extern "C" fn wall_close(words: &mut [u64]) -> Answer
     ensures { λ r. ⌜ outcomeOf r (now (words .exit)) ≡ model.close (now (words .entry)) ⌝ }
 {
