@@ -1,19 +1,19 @@
 -- What is known of the levels ahead of a walk over the upper levels of a shape that fits.
-use mathlib.Core.Path.{_≡_, refl, sym, ap, _∙_, subst}
-use mathlib.Core.Bool.{Bool, _&&_}
+use mathlib.Core.Path.{_≡_, refl, sym, _∙_, subst}
+use mathlib.Core.Bool.{_&&_}
 use mathlib.Core.List.{List, [], _∷_}
-use Prim.Native.Nat.{ℕ, zero, suc, _+_, _-_, _*_, _≤_, _<_, zero-le}
+use Prim.Native.Nat.{ℕ, zero, suc, _+_, _-_, _*_, _≤_, _<_}
 use native.Mathlib.Nat.{not-suc-le-zero, mul-comm, zero-add}
 use native.Mathlib.Numerals.{add-one, sub-one}
 use native.Mathlib.Omega.{arith}
 use lib.Dec.{T, leb, leb→le}
 use Rattle.model.specs.Lists.{sum}
-use Rattle.model.specs.Shapes.{Row, validRow, falling, allRows, markBits, markWidths, counterBits}
+use Rattle.model.specs.Shapes.{Row, validRow, falling, allRows, markWidths}
 use Rattle.model.proofs.Tools.{Each, all-tests, and-tests}
 use Rattle.model.proofs.Coding.{height}
 use Rattle.layout.specs.declared.Shape.{Shape}
-use Rattle.layout.specs.Shapes.{rowsFrom, rowsIn, entriesAt, widthAt, Valid}
-use Rattle.layout.proofs.Shapes.{Facts, facts, counter-sum, widthsOf}
+use Rattle.layout.specs.Shapes.{rowsFrom, rowsIn, entriesAt, widthAt}
+use Rattle.layout.proofs.Shapes.{facts, counter-sum, widthsOf}
 use Rattle.bucket.specs.Shapes.{Fit, At}
 
 -- the bits of marks of the levels ahead

@@ -9,7 +9,6 @@ use lib.ListN.{length, getD, take, drop, set, length-append, length-drop}
 use lib.Seq.{paste, length-take-le, take-paste, take-take, take-nil, drop-drop, getD-take, getD-drop}
 use Rattle.model.specs.Lists.{splice}
 use Rattle.model.specs.Shapes.{bucketSize}
-use Rattle.model.specs.Walls as model
 use Rattle.model.specs.Walls.{bucketWords, readBucket, readRest}
 use Rattle.layout.specs.declared.Shape.{Shape}
 use Rattle.layout.specs.declared.Bucket.{Bucket}

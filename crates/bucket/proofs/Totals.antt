@@ -1,6 +1,6 @@
 -- A whole bucket: the verdict on its levels, and the sum of its counts.
 use mathlib.Core.Path.{_≡_, refl, sym, ap, _∙_, subst}
-use mathlib.Core.Bool.{Bool, true, false, _&&_}
+use mathlib.Core.Bool.{Bool, true}
 use mathlib.Core.List.{List, [], _∷_}
 use Prim.Native.Nat.{ℕ, zero, suc, _+_, _*_, _/_, _%_, _^_, _≤_, _<_, zero-le}
 use native.Mathlib.Nat.{le-refl, le-of-eq, mul-suc, mul-comm, not-suc-le-zero}
@@ -74,11 +74,15 @@ sum-encode (r ∷ rs) vs f = rw (unpack-parts (r .width) vs, used-coded (r .widt
 module _ (w : ℕ) (rs : List Row) (vs : List ℕ) {c m : ℕ} {ls : List Level} (e : encode (allRows w rs) vs ≡ level c m ∷ ls) where
   cells-coded : pack w (parts w vs) ≡ c
   unfolding encode
-  cells-coded = let d : level (pack w (parts w vs)) (pack 1 (marks w vs)) ≡ level c m = cc in ap (λ (l : Level). l .cells) d
+  cells-coded =
+      let d : level (pack w (parts w vs)) (pack 1 (marks w vs)) ≡ level c m = cc in
+      ap (λ (l : Level). l .cells) d
 
   marks-coded : pack 1 (marks w vs) ≡ m
   unfolding encode
-  marks-coded = let d : level (pack w (parts w vs)) (pack 1 (marks w vs)) ≡ level c m = cc in ap (λ (l : Level). l .marks) d
+  marks-coded =
+      let d : level (pack w (parts w vs)) (pack 1 (marks w vs)) ≡ level c m = cc in
+      ap (λ (l : Level). l .marks) d
 
   uppers-coded : encode rs (onward w vs) ≡ ls
   unfolding encode

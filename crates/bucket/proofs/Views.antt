@@ -1,8 +1,8 @@
 -- The levels that a walk meets are those of the bucket's view.
-use mathlib.Core.Path.{_≡_, refl, sym, ap, ap₂, _∙_}
-use mathlib.Core.List.{List, [], _∷_}
-use Prim.Native.Nat.{ℕ, zero, suc, _+_, _-_, _/_, _%_, _^_, _≤_, _<_}
-use native.Mathlib.Nat.{mod-one, zero-add}
+use mathlib.Core.Path.{_≡_, refl, ap, _∙_}
+use mathlib.Core.List.{List, _∷_}
+use Prim.Native.Nat.{ℕ, zero, suc, _+_, _-_, _/_, _%_, _^_, _≤_}
+use native.Mathlib.Nat.{mod-one}
 use native.Mathlib.Omega.{arith}
 use lib.ListN.{length, getD, take, drop}
 use lib.Seq.{drop-cons}
@@ -10,14 +10,14 @@ use lib.Pow.{mod-mod-pow, field}
 use Rattle.model.specs.Lists.{sum}
 use Rattle.model.specs.Packed.{pack, cutFields}
 use Rattle.model.specs.Shapes.{markWidths}
-use Rattle.model.specs.Levels.{Level, level}
-use Rattle.model.specs.Sound.{pairLevels, levelsOf, upperMarks}
+use Rattle.model.specs.Levels.{level}
+use Rattle.model.specs.Sound.{pairLevels, levelsOf}
 use Rattle.layout.specs.declared.Shape.{Shape}
 use Rattle.layout.specs.declared.Bucket.{Bucket}
 use Rattle.layout.specs.Shapes.{rowsFrom, rowsIn, entriesAt}
 use Rattle.layout.specs.Views.{bucketOf}
 use Rattle.layout.proofs.Shapes.{facts}
-use Rattle.bucket.specs.Shapes.{Fit, marksOf, levelsFrom}
+use Rattle.bucket.specs.Shapes.{Fit, levelsFrom}
 
 -- the low bits of a number of c bits or more
 low-cut : (g c k : ℕ) → k ≤ c → g % 2 ^ c % 2 ^ k ≡ g % 2 ^ k

@@ -1,19 +1,19 @@
 -- The limits call, refusal by refusal.
 use mathlib.Core.Path.{_≡_, refl, sym, ap, ap₂, _∙_, subst}
-use mathlib.Core.Bool.{Bool, true, false, not, _&&_}
-use mathlib.Core.List.{List, [], _∷_}
-use Prim.Native.Nat.{ℕ, zero, suc, _+_, _≤_, _<_}
+use mathlib.Core.Bool.{not}
+use mathlib.Core.List.{[], _∷_}
+use Prim.Native.Nat.{ℕ, zero, suc, _≤_, _<_}
 use native.Mathlib.Omega.{arith}
-use lib.Dec.{T, leb, ltb, le→leb, lt→ltb, leb→le, lit<, not-T}
+use lib.Dec.{T, leb, ltb, le→leb, lt→ltb, not-T}
 use lib.Arith.{le→nltb}
 use Rattle.model.specs.Shapes.{knownShape, rowsOf, widthAsked, counterBits}
-use Rattle.model.specs.Calls.{Clear, Reply, reply, refuse, firstMet, limitsRefusals, limitsCall}
-use Rattle.model.proofs.Tools.{and-tests, tests-and, to-not-not}
+use Rattle.model.specs.Calls.{reply, refuse, firstMet, limitsRefusals, limitsCall}
+use Rattle.model.proofs.Tools.{tests-and, to-not-not}
 use Rattle.model.proofs.Headers.{shape-bounds}
 use Rattle.layout.specs.declared.Shape.{Shape}
 use Rattle.layout.specs.Shapes.{shapeOf, rowsIn, Valid}
 use Rattle.layout.proofs.Shapes.{table-shape, table-rows}
-use Rattle.model.proofs.Refusals.{first-met, first-clear, reply-done, reply-refused}
+use Rattle.model.proofs.Refusals.{first-met, first-clear, reply-done}
 
 shape-known : (p : ℕ) → 3 ≤ p → p ≤ 5 → T (not (not (knownShape p)))
 shape-known p h k = to-not-not (knownShape p) (tests-and (leb 3 p) (leb p 5) (le→leb 3 p h) (le→leb p 5 k))

@@ -1,14 +1,13 @@
 -- The shape that the table gives is the model's, and valid; what a valid shape says, fact by fact.
 use mathlib.Core.Path.{_≡_, refl, sym, ap, _∙_, subst}
-use mathlib.Core.Bool.{Bool, _&&_}
+use mathlib.Core.Bool.{Bool}
 use mathlib.Core.List.{List, [], _∷_, map}
-use Prim.Native.Nat.{ℕ, zero, suc, _+_, _-_, _*_, _≤_, _<_, zero-le}
-use native.Mathlib.Nat.{add-suc, suc-add, add-zero}
+use Prim.Native.Nat.{ℕ, zero, suc, _+_, _-_, _≤_, _<_}
 use native.Mathlib.Omega.{arith}
 use lib.Dec.{T, leb, leb→le, le→leb}
 use lib.ListN.{length, getD}
-use Rattle.model.specs.Lists.{sum, all}
-use Rattle.model.specs.Shapes.{Row, row, rowsOf, knownShape, validRow, falling, markWidths, validRows, validWidth, counterBits}
+use Rattle.model.specs.Lists.{sum}
+use Rattle.model.specs.Shapes.{Row, rowsOf, knownShape, falling, markWidths, validRows, counterBits}
 use Rattle.model.proofs.Tools.{AllT, all-tests, and-tests, tests-and}
 use Rattle.model.proofs.Headers.{table-valid}
 use Rattle.layout.specs.declared.Shape.{Shape}

@@ -1,4 +1,4 @@
--- What code that steps the levelsOf in place has to show: the bucket with one raisedBy at a 1 place, and its hasRoom.
+-- What code that steps the levels in place has to show: the bucket with one more at one place, and its room.
 use mathlib.Core.Logic.{_↔_}
 use mathlib.Core.Path.{_≡_, refl, sym, ap, ap₂, _∙_, subst, subst₂}
 use mathlib.Core.Bool.{Bool, true, false, not}
@@ -32,7 +32,7 @@ module _ (w : ℕ) (rs : List Row) (wide : Wide (allRows w rs)) (b : Bucket) (s 
   in-own : a < length os
   in-own = subst (λ n. a < n) (sym (length-own w rs b)) la
 
-  -- the carry walk gives the levelsOf of the counts with one raisedBy at a 1
+  -- the carry walk gives the levels of the counts with one more at one place
   pub bump-hold : fromLevels w rs (incremented (allRows w rs) (levelsOf rs b) a) 0 0 ≡ holding w rs (set os a (getD os a 0 + 1))
   unfolding holding
   bump-hold = ap (λ ls. fromLevels w rs ls 0 0) (ap (λ ls. incremented (allRows w rs) ls a) (sym (own-coded w rs b s)) ∙ bump-encode (allRows w rs) os a wide in-own)
@@ -66,7 +66,7 @@ flag-stays f a v l h e =
 -- ---- what code reads off a bucket
 
 module _ (w : ℕ) (rs : List Row) (b : Bucket) where
-  -- a count by the walk of the levelsOf, whose rank is the machine's count of ones
+  -- a count by the walk of the levels, whose rank is the machine's count of ones
   pub own-walk : (a : ℕ) → a < 64 → getD (ownCounts w rs b) a 0 ≡ read (allRows w rs) (levelsOf rs b) a
   own-walk a l = ap (λ x. getD x a 0) (own-read w rs b) ∙ getD-tab 64 (read (allRows w rs) (levelsOf rs b)) a l
 

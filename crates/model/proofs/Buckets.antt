@@ -1,4 +1,4 @@
--- One bucket: its ownCounts bucketCounts are what its levelsOf holding, and a sound one stays sound.
+-- One bucket: its own counts are what its levels hold, and a sound one stays sound.
 use mathlib.Core.Logic.{_≢_}
 use mathlib.Core.Path.{_≡_, refl, sym, ap, ap₂, _∙_, subst, subst₂}
 use mathlib.Core.Bool.{Bool, true, false}
@@ -29,7 +29,7 @@ use Rattle.model.proofs.Tools.{all-tests, tests-all}
 use Rattle.model.proofs.Headers.{Fine, eq-eqb}
 use Rattle.model.proofs.Sums.{tab-ext, tab-set, tab-getD, sum-at}
 
--- ---- the walk and the test are those of the levelsOf
+-- ---- the walk and the test are those of the levels
 
 sign-mul : (m x : ℕ) → m < 2 → byMark m 0 x ≡ m * x
 sign-mul zero x h = sym (zero-mul x)
@@ -89,7 +89,7 @@ sound-levels lo (r ∷ rs) n (l ∷ ls) s =
       ),
     )
 
--- ---- what sound levelsOf holding
+-- ---- what sound levels hold
 
 pub length-own : (w : ℕ) (rs : List Row) (b : Bucket) → length (ownCounts w rs b) ≡ 64
 unfolding ownCounts
@@ -192,7 +192,7 @@ module _ (w : ℕ) (rs : List Row) (fine : Fine rs) (vs : List ℕ) (f : Fits (a
   unfolding holding encode marksOf
   hold-number = packed-number marksOf 0 0 marks-40 (lit< tt)
 
--- ---- the flag and the number go in: the levelsOf stay
+-- ---- the flag and the number go in: the levels stay
 
 goes-40 : (b : Bucket) → upperMarks (b .packed) < 2 ^ 40
 goes-40 b = mod-lt (b .packed) (pow-pos 40)
@@ -222,7 +222,7 @@ module _ (b : Bucket) (n : ℕ) where
   unfolding ownCounts
   over-own w rs = ap (λ l. tabulate 64 (readAt (allRows w rs) l)) (over-levels rs)
 
--- ---- the bucketCounts
+-- ---- the counts
 
 -- a number's bits, taken apart, are its bits
 pub unpack-at : (w n x a : ℕ) → a < n → getD (unpack w n x) a 0 ≡ entry w x a
@@ -303,7 +303,7 @@ module _ (f : Full) (a v : ℕ) (l : a < 64) (n : length (f .counts) ≡ 64) whe
           let z : k ≢ a = λ q. subst T (sym (sym e ∙ ap (λ x. eqb x a) q)) (eqb-refl a) in
           subst₂ (λ y c. T (byMark y (eqb c 0) (ltb (getD os k 0) c))) (sym (moved-other k m z)) (sym (full-other k z)) (p k m)
 
--- a bucket's ownCounts count is never above the count
+-- a bucket's own count is never above the count
 pub own-le : (os : List ℕ) (f : Full) (a : ℕ) → a < 64 → T (soundPlace os f a) → getD os a 0 ≤ getD (bucketCounts os f) a 0
 own-le os f a l t = subst (λ x. getD os a 0 ≤ x) (sym (count-at os f a l)) (go (movedAt f a) t)
   where

@@ -22,7 +22,7 @@ abbrev pub height : List Row → ℕ
 height [] = 0
 height (r ∷ rs) = height rs + r .width
 
--- the count at entry a: its part, and where its mark is set the count at its rankIn in the next level
+-- the count at entry a: its part, and where its mark is set the count at its rank in the next level
 unfoldable pub read : List Row → List Level → ℕ → ℕ
 read [] ls a = 0
 read (r ∷ rs) [] a = 0

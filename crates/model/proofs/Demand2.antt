@@ -54,7 +54,7 @@ good-flatten v c s l =
       limits = subst Limits (sym (read-flatten v c)) l;
     }
 
--- the rows are those of the shape bucketsIn
+-- the rows are those of the shape number
 abbrev pub Tabled : Header → Type 0
 Tabled h = h .rows ≡ rowsOf (h .shape)
 
@@ -205,7 +205,7 @@ pub lookup-count : (ws : List ℕ) (y : ℕ) → Accepted ws → y < flows (pars
 unfolding lookup
 lookup-count ws y ok h = answer-done (count (parse ws) y) ws ws (firstMet (bucketRefusals ws y)) (first-clear (bucketRefusals ws y) (own-clear ws y ok h))
 
--- and the bucketsIn is that of the step alone
+-- and the number is that of the step alone
 pub increment-no : (ws : List ℕ) (y : ℕ) → Accepted ws → y < flows (parse ws .header) → increment ws y .number ≡ firstMet (stepRefusals (parse ws) y)
 unfolding increment
 increment-no ws y ok h =

@@ -199,7 +199,7 @@ module _ (h : Header) (l : Limits (withTotals h 0 0)) (k : Tabled h) where
   rev-tally : (ys : List ℕ) (k : ℕ) → tallies k (reverseAux (slots h ys) []) ≡ tallies k (slots h ys)
   rev-tally ys k = tab-ext 64 (λ a. listed (k * 64 + a) (reverseAux (slots h ys) [])) (λ a. listed (k * 64 + a) (slots h ys)) (λ a _. rev-listed ys (k * 64 + a))
 
-  -- (ii) after an accepted list each flow's count is its bucketsIn of listings, the total the length, U the bucketsIn of crowded buckets, and just those are flagged
+  -- (ii) after an accepted list each flow's count is its number of listings, the total the length, U the number of crowded buckets, and just those are flagged
   pub after-on : (ys ws : List ℕ) → Below (flows h) ys → On h (reverseAux (slots h ys) []) ws → After h ys ws
   unfolding count
   after-on ys ws b o =
@@ -249,7 +249,7 @@ module _ (h : Header) (l : Limits (withTotals h 0 0)) (k : Tabled h) where
           flags = λ k m. p .flags k m ∙ ap (λ c. oneIf (crowded (h .width) (h .rows) c)) (same-tally k) ∙ sym (q .flags k m);
         }
 
-  -- (iv) after an accepted list the next increment's number: 10 where the length is M, else 12 where the list with it crowds raisedBy than J 1 buckets, else 0
+  -- (iv) after an accepted list the next increment's number: 10 where the length is M, else 12 where the list with it crowds more than J buckets, else 0
   pub next-after : (ys : List ℕ) → Below (flows h) ys → run (fresh h) ys .number ≡ 0 → (y : ℕ) → y < flows h
       → increment (run (fresh h) ys .words) y .number ≡ firstMet (refuse 10 (eqb (length ys) (h .limit)) ∷ refuse 12 (ltb (h .full) (crowdedBuckets h (y ∷ ys))) ∷ [])
   next-after ys b e y m =

@@ -1,4 +1,4 @@
--- Which lists of increments are accepted throughout, said of the talliesOf alone: it does not turn on the order.
+-- Which lists of increments are accepted throughout, said of the tallies alone: it does not turn on the order.
 use mathlib.Core.Path.{_≡_, refl, sym, ap, _∙_, fun-ext}
 use mathlib.Core.Bool.{false}
 use mathlib.Core.Logic.{_↔_}
@@ -25,7 +25,7 @@ sum-under : (n : ℕ) (f g : ℕ → ℕ) → ((i : ℕ) → f i ≤ g i) → su
 sum-under zero f g h = zero-le
 sum-under (suc n) f g h = add-le-add (h 0) (sum-under n (λ i. f (suc i)) (λ i. g (suc i)) (λ i. h (suc i)))
 
--- ---- what oneIf of a list and then of each longer one that it begins: said of the whole, it is said of every beginning
+-- ---- what holds of a list and then of each longer one that it begins: said of the whole, it is said of every beginning
 
 -- the slots done stand last first
 abbrev pub Throughout : (List ℕ → Type 0) → List ℕ → List ℕ → Type 0
@@ -45,7 +45,7 @@ module _ (ok : List ℕ → Type 0) (shorter : (x : ℕ) (xs : List ℕ) → ok 
   whole-throughout [] done h = tt
   whole-throughout (x ∷ xs) done h = (begun xs (x ∷ done) h, whole-throughout xs (x ∷ done) h)
 
--- ---- the talliesOf after a list, whatever its order
+-- ---- the tallies after a list, whatever its order
 
 pub listed-rev : (s : ℕ) (xs ys : List ℕ) → listed s (reverseAux xs ys) ≡ listed s xs + listed s ys
 listed-rev s [] ys = sym (zero-add (listed s ys))
@@ -68,7 +68,7 @@ sum-tab-one zero x h = absurd (not-suc-le-zero h)
 sum-tab-one (suc n) zero h = simp eqb·suc-zero (ap (λ x. 1 + x) (sum-tab-zero n))
 sum-tab-one (suc n) (suc x) h = simp (eqb·zero-suc, eqb·suc-suc) (rw (sum-tab-one n x (le-of-suc-le-suc h)))
 
--- the talliesOf of n slots add up to the number of listings
+-- the tallies of n slots add up to the number of listings
 pub sum-listed : (n : ℕ) (xs : List ℕ) → Below n xs → sum (tabulate n (λ s. listed s xs)) ≡ length xs
 sum-listed n [] b = sum-tab-zero n
 sum-listed n (x ∷ xs) b = rw (sum-tab-add n (λ s. oneIf (eqb s x)) (λ s. listed s xs), sum-tab-one n x (b .0), sum-listed n xs (b .1)) (one-add (length xs))

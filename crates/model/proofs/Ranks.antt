@@ -54,7 +54,7 @@ rank-sum [] (suc a) = refl
 rank-sum (q ∷ qs) zero = refl
 rank-sum (q ∷ qs) (suc a) = ap (λ x. sign q + x) (rank-sum qs a)
 
--- the element at place a, read through its mark and its rankIn
+-- the element at place a, read through its mark and its rank
 pub nonzero-at : (qs : List ℕ) (a : ℕ) → getD (map sign qs) a 0 * getD (nonzero qs) (rankIn qs a) 0 ≡ getD qs a 0
 nonzero-at [] a = refl
 nonzero-at (zero ∷ qs) zero = zero-mul (getD (nonzero qs) 0 0)

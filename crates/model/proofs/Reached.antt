@@ -116,7 +116,7 @@ module _ (h : Header) (t u : ℕ) (bs : List Bucket) (fs : List Full) (xs : List
   unfolding count
   c-tally = ap (λ l. getD l a 0) (r .counts i li)
 
-  -- the bucketCounts after are those of the longer list
+  -- the counts after are those of the longer list
   after : set (countsAt v i) a (count v y + d) ≡ tallies i zs
   after = ap₂ (λ l n. set l a (n + d)) (r .counts i li) c-tally ∙ tally-again d x xs
 
@@ -135,7 +135,7 @@ module _ (h : Header) (t u : ℕ) (bs : List Bucket) (fs : List Full) (xs : List
       (λ k l z. ap (λ l. oneIf (crowded (h .width) (h .rows) l)) (again-there d k x xs z))
       ∙ ap (λ n. n + oneIf (crowded (h .width) (h .rows) (tallies i zs))) now
 
-  -- bucketsIn 12 is met where the bucketCounts after crowd raisedBy than J 1 buckets
+  -- 12 is met where the counts after crowd more than J buckets
   full-crowds : (overflows v i a (count v y + d) && eqb u (h .full)) ≡ ltb (h .full) (crowdedAfter h zs)
   full-crowds = go (flag (bucketAt v i)) (flag-le (bucketAt v i)) refl (crowded (h .width) (h .rows) (tallies i zs)) refl
     where
@@ -192,7 +192,7 @@ module _ (h : Header) (t u : ℕ) (bs : List Bucket) (fs : List Full) (xs : List
 -- ---- for any wall that was reached
 
 module _ (h : Header) (xs : List ℕ) (v : Wall) (r : Reached h xs v) where
-  -- what oneIf at that header oneIf
+  -- what holds at that header
   at-header : (P : Wall → Type 0) → ((t u : ℕ) → Reached h xs (wall (withTotals h t u) (v .buckets) (v .fulls)) → P (wall (withTotals h t u) (v .buckets) (v .fulls))) → P v
   at-header P f = subst (λ g. Reached h xs (wall g (v .buckets) (v .fulls)) → P (wall g (v .buckets) (v .fulls))) (sym (r .header)) (f (length xs) (v .header .used)) r
 

@@ -1,4 +1,4 @@
--- Numbers and refusals: the firstMet that applies, and what a refusal leaves.
+-- Numbers and refusals: the first that applies, and what a refusal leaves.
 use mathlib.Core.Logic.{_≢_}
 use mathlib.Core.Path.{_≡_, refl, sym, ap, _∙_, subst}
 use mathlib.Core.Bool.{Bool, true, false, not, _&&_}
@@ -107,7 +107,7 @@ first-drop (q ∷ rs) r ss h = go (q .met) (λ t. first-drop rs r ss (λ c. h (t
     go true f = refl
     go false f = f tt
 
--- the bucketsIn given is one of those in the list
+-- the number given is one of those in the list
 abbrev pub Apart : ℕ → List Refusal → Type 0
 Apart n [] = 0 ≢ n
 Apart n (r ∷ rs) = (r .number ≢ n) × Apart n rs
@@ -160,7 +160,7 @@ first-met rs r ss c t = first-skip rs (r ∷ ss) c ∙ go (r .met) t
     go true t = refl
     go false t = absurd t
 
--- what follows refusals that are not met may be exchanged for what gives the same bucketsIn
+-- what follows refusals that are not met may be exchanged for what gives the same number
 pub first-same : (rs ss us : List Refusal) → (Clear rs → firstMet ss ≡ firstMet us) → firstMet (rs ++ ss) ≡ firstMet (rs ++ us)
 first-same [] ss us h = h tt
 first-same (r ∷ rs) ss us h = go (r .met) (λ t. first-same rs ss us (λ c. h (t, c)))

@@ -1,4 +1,4 @@
--- U is the bucketsIn of flagged buckets of a sound wall.
+-- U is the number of flagged buckets of a sound wall.
 use mathlib.Core.Path.{_≡_, refl, sym, ap, ap₂, _∙_, subst}
 use mathlib.Core.List.{List, [], _∷_}
 use Prim.Native.Nat.{ℕ, zero, suc, _+_, _≤_, _<_}

@@ -39,7 +39,7 @@ part-at w vs a = getD-map (λ v. v % 2 ^ w) (zero-mod (2 ^ w)) vs a
 pub mark-at : (w : ℕ) (vs : List ℕ) (a : ℕ) → getD (marks w vs) a 0 ≡ sign (getD vs a 0 / 2 ^ w)
 mark-at w vs a = getD-map sign refl (uppers w vs) a ∙ ap sign (upper-at w vs a)
 
--- the value that the next level holds for place a, at the rankIn of a, is what is above the part; without a mark nothing is
+-- the value that the next level holds for place a, at the rank of a, is what is above the part; without a mark nothing is
 pub onward-at : (w : ℕ) (vs : List ℕ) (a : ℕ) → getD (marks w vs) a 0 * getD (onward w vs) (rankIn (uppers w vs) a) 0 ≡ getD vs a 0 / 2 ^ w
 onward-at w vs a = nonzero-at (uppers w vs) a ∙ upper-at w vs a
 
@@ -61,11 +61,11 @@ module _ (w : ℕ) (vs : List ℕ) (a v′ : ℕ) where
   pub marks-set : marks w (set vs a v′) ≡ set (marks w vs) a (sign (v′ / 2 ^ w))
   marks-set = ap (map sign) uppers-set ∙ map-set sign (uppers w vs) a (v′ / 2 ^ w)
 
-  -- the mark was set: the next level's entry at the rankIn is replaced
+  -- the mark was set: the next level's entry at the rank is replaced
   pub onward-set : 2 ^ w ≤ getD vs a 0 → 2 ^ w ≤ v′ → onward w (set vs a v′) ≡ set (onward w vs) (rankIn (uppers w vs) a) (v′ / 2 ^ w)
   onward-set h h′ = ap nonzero uppers-set ∙ nonzero-set (uppers w vs) a (v′ / 2 ^ w) (rw upper-at (div-pos w h)) (div-pos w h′)
 
-  -- the mark is newly set: an entry comes in at the rankIn
+  -- the mark is newly set: an entry comes in at the rank
   pub onward-insert : a < length vs → getD vs a 0 < 2 ^ w → 2 ^ w ≤ v′ → onward w (set vs a v′) ≡ insert (onward w vs) (rankIn (uppers w vs) a) (v′ / 2 ^ w)
   onward-insert l h h′ = ap nonzero uppers-set ∙ nonzero-insert (uppers w vs) a (v′ / 2 ^ w) (rw length-map l) (upper-at w vs a ∙ div-eq-of-lt h) (div-pos w h′)
 

@@ -1,17 +1,14 @@
 -- A flow's own bucket is found, or 7, 8 or 9 is met: for lookup and increment alike.
-use mathlib.Core.Path.{_≡_, refl, sym, ap, ap₂, _∙_, subst, subst₂}
-use mathlib.Core.Bool.{Bool, true, false, not}
+use mathlib.Core.Path.{_≡_, sym, ap, ap₂, _∙_, subst}
+use mathlib.Core.Bool.{not}
 use mathlib.Core.List.{List, [], _∷_, _++_}
-use Prim.Native.Nat.{ℕ, zero, suc, _+_, _*_, _/_, _%_, _^_, _≤_, _<_}
-use native.Mathlib.Nat.{mod-lt}
-use native.Mathlib.Omega.{arith}
-use lib.Dec.{T, leb, le→leb, lit<}
+use Prim.Native.Nat.{ℕ, _/_, _%_, _^_, _≤_, _<_}
+use lib.Dec.{T, leb, le→leb}
 use lib.Arith.{lt→nleb}
 use lib.ListN.{getD}
 use Rattle.model.specs.Slots.{slot}
-use Rattle.model.specs.Shapes.{rowsOf}
 use Rattle.model.specs.Walls.{Header, flows, bucketsIn, bucketOf, placeOf, good, parse}
-use Rattle.model.specs.Sound.{bucketAt, ownAt, fullFor, bucketCounts, fullOf, flag, fullNumber, countsAt, soundBucket, soundAt, count}
+use Rattle.model.specs.Sound.{bucketAt, ownAt, bucketCounts, fullOf, countsAt, soundBucket, soundAt, count}
 use Rattle.model.specs.Calls.{Clear, Refusal, refuse, firstMet, outcome, bucketRefusals, lookup}
 use Rattle.model.proofs.Tools.{to-not-not}
 use Rattle.model.proofs.Headers.{bucket-lt, of-good}
@@ -24,7 +21,7 @@ use Rattle.layout.proofs.Shapes.{table-rows}
 use Rattle.bucket.specs.declared.Held.{Held}
 use Rattle.bucket.specs.Held.{viewOf, ownOf}
 use Rattle.wall.specs.declared.header.Opened.the-variants.{Good}
-use Rattle.wall.specs.Headers.{Known, Open, openedOf}
+use Rattle.wall.specs.Headers.{Open, openedOf}
 use Rattle.wall.specs.Judge.{fullIn, soundIn, Numbered}
 use Rattle.wall.proofs.Starting.{opened}
 use Rattle.wall.proofs.Places.{open-known, open-header}

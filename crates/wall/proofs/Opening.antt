@@ -1,20 +1,20 @@
 -- A header is opened exactly where number 7 is not met.
 use mathlib.Core.Path.{_≡_, refl, sym, ap, ap₂, _∙_, subst}
 use mathlib.Core.Bool.{Bool, true, false, not, _&&_}
-use mathlib.Core.List.{List, [], _∷_}
-use Prim.Native.Nat.{ℕ, zero, suc, _+_, _-_, _*_, _/_, _%_, _^_, _≤_, _<_}
+use mathlib.Core.List.{List}
+use Prim.Native.Nat.{ℕ, _+_, _-_, _*_, _/_, _%_, _^_, _≤_, _<_}
 use native.Mathlib.Omega.{arith}
-use lib.Dec.{T, leb, ltb, eqb, le→leb, leb→le, lt→ltb, ltb→lt, eqb→eq, lit<}
+use lib.Dec.{T, leb, le→leb, leb→le}
 use lib.Pow.{pow-mono, shr-shr, shr-lt}
 use native.Mathlib.Nat.{mul-le-mul, mod-eq-of-lt}
 use lib.ListN.{length}
 use Rattle.model.specs.Lists.{choose}
-use Rattle.model.specs.Shapes.{knownShape, validWidth, bucketSize, rowsOf, counterBits}
+use Rattle.model.specs.Shapes.{knownShape, validWidth, rowsOf, counterBits}
 use Rattle.model.specs.Slots.{knownBits}
-use Rattle.model.specs.Walls.{Header, headField, letters, version, wordAt, readHeader, good, limits, limitFits, fullFits, bucketsIn, bucketLength, wallSize, countEnd}
-use Rattle.model.proofs.Crowding.{T-true, T-false}
+use Rattle.model.specs.Walls.{Header, headField, letters, version, wordAt, good, limits, limitFits, fullFits, bucketsIn, bucketLength, wallSize}
+use Rattle.model.proofs.Crowding.{T-true}
 use Rattle.model.proofs.Tools.{and-tests, tests-and}
-use Rattle.model.proofs.Headers.{Limits, limits-of, of-limits, good-of, of-good, shape-bounds, rows-fine, eq-eqb, limit-test, full-test}
+use Rattle.model.proofs.Headers.{Limits, limits-of, good-of, of-good, shape-bounds, rows-fine, eq-eqb}
 use Rattle.model.proofs.Headers as model
 use Rattle.layout.specs.declared.Shape.{Shape}
 use Rattle.layout.specs.declared.Wall.{Wall}

@@ -1,13 +1,12 @@
 -- Where buckets and full-size buckets stand in the words of a good header, and that they are there.
-use mathlib.Core.Path.{_≡_, refl, sym, ap, ap₂, _∙_, subst}
+use mathlib.Core.Path.{_≡_, sym, ap, _∙_, subst}
 use mathlib.Core.List.{List}
-use Prim.Native.Nat.{ℕ, zero, suc, _+_, _*_, _^_, _≤_, _<_}
+use Prim.Native.Nat.{ℕ, suc, _+_, _*_, _≤_, _<_}
 use native.Mathlib.Nat.{suc-mul, add-assoc, mul-le-mul-right}
 use native.Mathlib.Omega.{arith}
-use lib.Dec.{T}
 use lib.ListN.{length, getD, take, drop}
 use Rattle.model.specs.Shapes.{bucketSize, rowsOf}
-use Rattle.model.specs.Walls.{Header, Bucket, Full, Wall, bucketsIn, bucketLength, wallSize, readHeader, good, readBucket, readFull, parse, emptyFull}
+use Rattle.model.specs.Walls.{Header, Bucket, Wall, bucketsIn, bucketLength, wallSize, readHeader, good, readBucket, readFull, parse, emptyFull}
 use Rattle.model.specs.Sound.{bucketAt}
 use Rattle.model.proofs.Headers.{Limits, good-of}
 use Rattle.model.proofs.Headers as model
@@ -18,9 +17,7 @@ use Rattle.layout.specs.declared.Wall as layout
 use Rattle.layout.specs.Shapes.{shapeOf, rowsIn}
 use Rattle.layout.specs.Views.{headerOf}
 use Rattle.layout.proofs.Shapes.{table-rows}
-use Rattle.bucket.specs.declared.Held.{Held}
-use Rattle.bucket.specs.Held.{viewOf}
-use Rattle.wall.specs.Headers.{fieldsOf, Known, Open}
+use Rattle.wall.specs.Headers.{Known, Open}
 use Rattle.wall.proofs.Starting.{good-known}
 
 -- i of n pieces of m words, and the next

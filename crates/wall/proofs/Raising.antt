@@ -1,15 +1,13 @@
 -- An increment: its refusals, and the step where none of 7 to 10 is met.
 use mathlib.Core.Logic.{_≢_}
-use mathlib.Core.Path.{_≡_, refl, sym, ap, ap₂, _∙_, subst}
-use mathlib.Core.Bool.{Bool, true, false, not, _&&_}
+use mathlib.Core.Path.{_≡_, sym, ap, _∙_, subst}
+use mathlib.Core.Bool.{not, _&&_}
 use mathlib.Core.List.{List, [], _∷_, _++_}
-use Prim.Native.Nat.{ℕ, zero, suc, _+_, _^_, _≤_, _<_}
-use native.Mathlib.Nat.{le-trans}
+use Prim.Native.Nat.{ℕ, _+_, _≤_, _<_}
 use native.Mathlib.Omega.{arith}
 use lib.Dec.{T, eqb, not-T, eqb→eq}
-use lib.ListN.{getD}
 use Rattle.model.specs.Walls.{Header, countEnd, bucketOf, placeOf, flatten, parse}
-use Rattle.model.specs.Sound.{countsAt, soundAt, count}
+use Rattle.model.specs.Sound.{soundAt, count}
 use Rattle.model.specs.Calls.{Clear, refuse, firstMet, outcome, bucketRefusals, overflows, stepRefusals, raisedBy, increment}
 use Rattle.model.proofs.Headers.{eq-eqb}
 use Rattle.model.proofs.Refusals.{first-met, first-skip, answer-no, answer-refused}

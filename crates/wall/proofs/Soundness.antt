@@ -1,24 +1,21 @@
 -- A bucket in hand is sound exactly where its tests pass, one after the other.
 use mathlib.Core.Path.{_≡_, refl, sym, ap, ap₂, _∙_, subst, subst₂}
-use mathlib.Core.Bool.{Bool, true, false, not}
-use mathlib.Core.List.{List, [], _∷_}
-use Prim.Native.Nat.{ℕ, zero, suc, _+_, _*_, _/_, _%_, _^_, _≤_, _<_, zero-le}
+use mathlib.Core.Bool.{Bool}
+use mathlib.Core.List.{List}
+use Prim.Native.Nat.{ℕ, zero, suc, _+_, _*_, _^_, _≤_, _<_, zero-le}
 use native.Mathlib.Nat.{le-trans, le-of-eq}
 use native.Mathlib.Omega.{arith}
 use lib.Dec.{T, leb, ltb, eqb, leb→le, le→leb, lt→ltb, ltb→lt, eqb→eq, lit≤}
 use lib.ListN.{length, getD}
-use Rattle.model.specs.Lists.{sum, all, every, byMark}
+use Rattle.model.specs.Lists.{sum, all, byMark}
 use Rattle.model.specs.Packed.{rank}
-use Rattle.model.specs.Shapes.{Row, allRows, rowsOf, counterBits, markWidths}
-use Rattle.model.specs.Levels.{soundLevels}
+use Rattle.model.specs.Shapes.{Row, allRows, rowsOf, counterBits}
 use Rattle.model.specs.Walls.{Bucket, Full, bucketsIn, bucketLength, countEnd, emptyFull, parse}
 use lib.Pow.{pow-mono}
-use Rattle.model.specs.Sound.{upperMarks, flag, spareBits, fullNumber, levelsOf, ownCounts, bucketCounts, soundPlace, soundBucket, fullOf}
-use Rattle.model.proofs.Crowding.{T-true}
+use Rattle.model.specs.Sound.{flag, fullNumber, levelsOf, ownCounts, bucketCounts, soundPlace, soundBucket}
 use Rattle.model.proofs.Tests.{every-at, every-of}
 use Rattle.model.proofs.Tools.{all-tests, tests-all}
-use Rattle.model.proofs.Headers.{eq-eqb}
-use Rattle.model.proofs.Buckets.{SoundB, bucket-facts, facts-bucket, levels-sound, sound-levels, counts-none, length-own, none-places, flag-le}
+use Rattle.model.proofs.Buckets.{bucket-facts, facts-bucket, levels-sound, sound-levels, counts-none, length-own, none-places, flag-le}
 use Rattle.layout.specs.declared.Wall.{Wall}
 use Rattle.layout.specs.Shapes.{rowsIn, shapeOf}
 use Rattle.layout.specs.Views.{headerOf}
@@ -26,8 +23,8 @@ use Rattle.layout.proofs.Shapes.{table-rows, counter-sum, widthsOf}
 use Rattle.bucket.specs.Shapes.{Fit}
 use Rattle.bucket.specs.declared.Held.{Held}
 use Rattle.bucket.specs.declared.judge.Judged.{Judged}
-use Rattle.bucket.specs.declared.judge.Judged.the-variants.{Sound, Unsound}
-use Rattle.bucket.specs.Held.{viewOf, ownOf, soundOf, upperSum}
+use Rattle.bucket.specs.declared.judge.Judged.the-variants.{Unsound}
+use Rattle.bucket.specs.Held.{viewOf, ownOf, upperSum}
 use Rattle.bucket.specs.Judge.{verdict}
 use Rattle.bucket.specs.Full.{fullAt, fullTests}
 use Rattle.wall.specs.Judge.{Framed, fullIn, soundIn, partIn, judgedIn}

@@ -1,16 +1,16 @@
 -- Raise and close: the words of a fresh wall, and each refusal.
 use mathlib.Core.Path.{_≡_, refl, sym, ap, ap₂, _∙_, subst}
 use mathlib.Core.Bool.{Bool, true, false, not}
-use mathlib.Core.List.{List, [], _∷_, _++_}
-use Prim.Native.Nat.{ℕ, zero, suc, _+_, _*_, _^_, _≤_, _<_}
+use mathlib.Core.List.{List, [], _∷_}
+use Prim.Native.Nat.{ℕ, suc, _+_, _*_, _≤_, _<_}
 use native.Mathlib.Omega.{arith}
 use lib.Dec.{T, leb, ltb, eqb, leb→le, lt→ltb, eqb→eq, lit<, not-T}
 use lib.Arith.{le→nltb}
 use lib.ListN.{length, set, replicate}
 use Rattle.model.specs.Shapes.{knownShape, widthAsked}
 use Rattle.model.specs.Slots.{knownBits}
-use Rattle.model.specs.Walls.{Header, fullWord, headerWords, withTotals, bucketsIn, bucketLength, wallSize, limitFits, fullFits, readHeader, good, fresh}
-use Rattle.model.specs.Calls.{Outcome, refuse, firstMet, asked, raiseRefusals, raise, closeRefusals, close}
+use Rattle.model.specs.Walls.{Header, fullWord, withTotals, bucketsIn, bucketLength, wallSize, limitFits, fullFits, readHeader, good, fresh}
+use Rattle.model.specs.Calls.{refuse, firstMet, asked, raiseRefusals, raise, closeRefusals, close}
 use Rattle.model.proofs.Tools.{to-not-not, and-tests}
 use Rattle.model.proofs.Headers.{of-good, good-of, eq-eqb}
 use Rattle.model.proofs.Headers as model
@@ -18,10 +18,8 @@ use Rattle.model.proofs.Refusals.{first-met, first-clear, answer-done, answer-r
 use Rattle.layout.specs.declared.Wall.{Wall}
 use Rattle.layout.specs.Views.{headerOf}
 use Rattle.layout.proofs.Refused.{asked-bounds}
-use Rattle.wall.specs.declared.header.Opened.{Opened}
 use Rattle.wall.specs.declared.header.Opened.the-variants.{Good, Bad}
 use Rattle.wall.specs.Headers.{fieldsOf, openedOf, Known}
-use Rattle.wall.proofs.Opening.{known-of, is-false}
 
 -- ---- the words
 

@@ -1,27 +1,26 @@
 -- The step writes the words that the model's step has, or is refused with 12.
-use mathlib.Core.Path.{_≡_, refl, sym, ap, ap₂, _∙_, subst, subst₂}
+use mathlib.Core.Path.{_≡_, refl, sym, ap, ap₂, _∙_, subst}
 use mathlib.Core.Bool.{Bool, true, false, not, _&&_}
-use mathlib.Core.List.{List, [], _∷_, _++_}
-use Prim.Native.Nat.{ℕ, zero, suc, _+_, _*_, _/_, _%_, _^_, _≤_, _<_}
-use native.Mathlib.Nat.{le-trans, le-of-lt}
+use mathlib.Core.List.{List, [], _∷_}
+use Prim.Native.Nat.{ℕ, _+_, _*_, _/_, _%_, _^_, _≤_, _<_}
 use native.Mathlib.Omega.{arith}
-use lib.Dec.{T, eqb, eqb→eq}
+use lib.Dec.{T, eqb}
 use lib.Pow.{split, shr-shr}
-use lib.ListN.{length, getD, set}
+use lib.ListN.{getD, set}
 use Rattle.model.specs.Lists.{sum, byMark, choose, splice}
 use Rattle.model.specs.Packed.{joinFields}
-use Rattle.model.specs.Shapes.{Row, rowsOf, counterBits, markWidths}
+use Rattle.model.specs.Shapes.{rowsOf, counterBits, markWidths}
 use Rattle.model.specs.Levels.{crowded}
-use Rattle.model.specs.Walls.{Header, Bucket, Full, bucketsIn, bucketLength, countEnd, wordAt, fullFields, bucketWords, fullWords, flatten, parse, emptyFull}
-use Rattle.model.specs.Sound.{upperMarks, flag, spareBits, fullNumber, bucketAt, ownAt, fullFor, countsAt, soundAt}
-use Rattle.model.specs.Calls.{Outcome, refuse, firstMet, outcome, holding, overflowed, moveIn, noRoom, overflows, step}
+use Rattle.model.specs.Walls.{Header, Bucket, bucketsIn, bucketLength, wordAt, fullFields, bucketWords, fullWords, flatten, parse, emptyFull}
+use Rattle.model.specs.Sound.{flag, fullNumber, bucketAt, ownAt, fullFor, countsAt}
+use Rattle.model.specs.Calls.{outcome, holding, overflowed, moveIn, noRoom, overflows, step}
 use Rattle.model.proofs.Steps.{eqb-false}
 use Rattle.model.proofs.Headers.{eq-eqb}
 use Rattle.model.proofs.Crowding.{T-true}
 use Rattle.model.proofs.Written.{words-held, words-over, words-moved}
 use Rattle.layout.specs.declared.Shape.{Shape}
 use Rattle.layout.specs.declared.Wall.{Wall}
-use Rattle.layout.specs.Shapes.{shapeOf, rowsIn}
+use Rattle.layout.specs.Shapes.{rowsIn}
 use Rattle.layout.specs.Views.{headerOf}
 use Rattle.layout.proofs.Shapes.{table-rows}
 use Rattle.bucket.specs.declared.Held.{Held}

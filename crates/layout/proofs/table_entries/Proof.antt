@@ -5,34 +5,25 @@ use Rattle.layout.specs.Shapes.{tableEntries}
 use Rattle.layout.proofs.Table.{right-at}
 use Rattle.layout.proofs.table_entries.Statement.{statement}
 use Rattle.layout.proofs.table_entries.Tie as tie
-use Rattle.layout.proofs.table_entries.Reads as reads
-use Rattle.layout.proofs.table_entries.Lts as lts
 
--- src/lib.rt:19:14
 sub-i : tie.Need-sub-i
 sub-i c = search needs
 
--- src/lib.rt:20:14
 sub-j : tie.Need-sub-j
 sub-j c = search needs
 
--- src/lib.rt:21:5
 mul-result : tie.Need-mul-result
 mul-result c = search needs
 
--- src/lib.rt:21:5
 mul-result-2 : tie.Need-mul-result-2
 mul-result-2 c = search needs
 
--- src/lib.rt:21:5
 index-1-result : tie.Need-index-1-result
 index-1-result c = search needs
 
--- src/lib.rt:21:5
 index-2-result : tie.Need-index-2-result
 index-2-result c = search needs
 
--- src/lib.rt:15:1
 returns : tie.Need-returns
 returns c = right-at ((15 ∷ 3 ∷ 0 ∷ 0 ∷ []) ∷ (25 ∷ 10 ∷ 2 ∷ 0 ∷ []) ∷ (25 ∷ 10 ∷ 3 ∷ 1 ∷ []) ∷ []) tableEntries tt (c .before .args .shape) (c .before .args .level - 2) (search needs) (search needs) (search needs)
 

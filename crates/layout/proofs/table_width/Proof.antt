@@ -5,34 +5,25 @@ use Rattle.layout.specs.Shapes.{tableWidth}
 use Rattle.layout.proofs.Table.{right-at}
 use Rattle.layout.proofs.table_width.Statement.{statement}
 use Rattle.layout.proofs.table_width.Tie as tie
-use Rattle.layout.proofs.table_width.Reads as reads
-use Rattle.layout.proofs.table_width.Lts as lts
 
--- src/lib.rt:28:14
 sub-i : tie.Need-sub-i
 sub-i c = search needs
 
--- src/lib.rt:29:14
 sub-j : tie.Need-sub-j
 sub-j c = search needs
 
--- src/lib.rt:30:5
 mul-result : tie.Need-mul-result
 mul-result c = search needs
 
--- src/lib.rt:30:5
 mul-result-2 : tie.Need-mul-result-2
 mul-result-2 c = search needs
 
--- src/lib.rt:30:5
 index-1-result : tie.Need-index-1-result
 index-1-result c = search needs
 
--- src/lib.rt:30:5
 index-2-result : tie.Need-index-2-result
 index-2-result c = search needs
 
--- src/lib.rt:24:1
 returns : tie.Need-returns
 returns c = right-at ((4 ∷ 13 ∷ 0 ∷ 0 ∷ []) ∷ (2 ∷ 4 ∷ 12 ∷ 0 ∷ []) ∷ (2 ∷ 3 ∷ 4 ∷ 9 ∷ []) ∷ []) tableWidth tt (c .before .args .shape) (c .before .args .level - 2) (search needs) (search needs) (search needs)
 

@@ -1,28 +1,21 @@
 use borrow.Author.Needs.{needs}
-use mathlib.Core.Path.{_≡_, refl, ap, _∙_}
+use mathlib.Core.Path.{refl, ap, _∙_}
 use Prim.Native.Nat.{ℕ, _-_, _/_, _%_, _^_}
 use Rattle.model.specs.Slots.{slot}
 use Rattle.model.proofs.Slots.{slot-lt}
 use Rattle.slot.proofs.Bytes.{slot-parts}
 use Rattle.slot.proofs.reversed.Statement.{statement}
 use Rattle.slot.proofs.reversed.Tie as tie
-use Rattle.slot.proofs.reversed.Reads as reads
-use Rattle.slot.proofs.reversed.Lts as lts
-use Rattle.slot.proofs.table.reversed_bytes.Reads as reversed-bytes-reads
 
--- src/lib.rt:17:9
 reversed-bytes-requires : tie.Need-reversed-bytes-requires
 reversed-bytes-requires c κs = search needs
 
--- src/lib.rt:18:13
 sub-result : tie.Need-sub-result
 sub-result c = search needs
 
--- src/lib.rt:18:5
 shr-result : tie.Need-shr-result
 shr-result c = search needs
 
--- src/lib.rt:13:1
 returns : tie.Need-returns
 returns c =
     let a = c .before .args in

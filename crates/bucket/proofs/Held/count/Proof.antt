@@ -52,7 +52,9 @@ read-from-requires c κs =
     (at-start (s .pre .0), omega (arith, facts (s .args .self .shape) (s .pre .0 .valid) .levels), omega arith)
 
 pow2-requires : tie.Need-pow2-requires
-pow2-requires c κs = let s = c .before .before .before .before .before .before .before .before .before in omega (arith, facts (s .args .self .shape) (s .pre .0 .valid) .first)
+pow2-requires c κs =
+    let s = c .before .before .before .before .before .before .before .before .before in
+    omega (arith, facts (s .args .self .shape) (s .pre .0 .valid) .first)
 
 value : (c : tie.After-pow2) → c .before .read-from .result * c .pow2 .result + c .before .before .before .before .before .before .first-entry .result ≡ getD (ownOf (c .before .before .before .before .before .before .before .before .before .before .args .self)) (c .before .before .before .before .before .before .before .before .before .before .args .place) 0
 value c =

@@ -13,10 +13,6 @@ use Rattle.bucket.proofs.Levels.{judged}
 use Rattle.bucket.proofs.Totals.{judged-whole}
 use Rattle.bucket.proofs.Held.judge.Statement.{statement}
 use Rattle.bucket.proofs.Held.judge.Tie as tie
-use Rattle.bucket.proofs.Held.judge.Reads as reads
-use Rattle.bucket.proofs.Held.judge.Lts as lts
-use Rattle.bucket.proofs.judge.judge_from.Reads as judge-from-reads
-use Rattle.packed.proofs.count.Reads as count-reads
 
 four : (c : tie.Start) → length (c .args .self .bucket .upper) ≡ 4
 four c = search needs

@@ -19,7 +19,10 @@ slice-aggregate-copy : tie.Need-slice-aggregate-copy
 slice-aggregate-copy c = search needs
 
 copy-requires : tie.Need-copy-requires
-copy-requires c κs = let p = c .before .before .before .before .before .before in let r = has p in (omega (arith, r .inside), omega (arith, r .first, first-long p))
+copy-requires c κs =
+    let p = c .before .before .before .before .before .before in
+    let r = has p in
+    (omega (arith, r .inside), omega (arith, r .first, first-long p))
 
 add-next : tie.Need-add-next
 add-next c = search needs
@@ -37,16 +40,23 @@ slice-aggregate-copy-2 : tie.Need-slice-aggregate-copy-2
 slice-aggregate-copy-2 c = search needs
 
 copy-requires-2 : tie.Need-copy-requires-2
-copy-requires-2 c κs = let p = c .before .before .before .before .before .before .before .before .before .before .before .before in let r = has p in (simp length-set (omega (arith, r .inside)), omega (arith, r .upper, upper-long p))
+copy-requires-2 c κs =
+    let p = c .before .before .before .before .before .before .before .before .before .before .before .before in
+    let r = has p in
+    (simp length-set (omega (arith, r .inside)), omega (arith, r .upper, upper-long p))
 
 add-words : tie.Need-add-words
 add-words c = search needs
 
 add-words-2 : tie.Need-add-words-2
-add-words-2 c = let r = has (c .before .before .before .before .before .before .before .before .before .before .before .before .before .before .before) in omega (arith, r .inside)
+add-words-2 c =
+    let r = has (c .before .before .before .before .before .before .before .before .before .before .before .before .before .before .before) in
+    omega (arith, r .inside)
 
 mul-words-2 : tie.Need-mul-words-2
-mul-words-2 c = let r = has (c .before .before .before .before .before .before .before .before .before .before .before .before .before .before .before) in omega (arith, r .inside)
+mul-words-2 c =
+    let r = has (c .before .before .before .before .before .before .before .before .before .before .before .before .before .before .before) in
+    omega (arith, r .inside)
 
 slice-write-words-2 : tie.Need-slice-write-words-2
 slice-write-words-2 c =

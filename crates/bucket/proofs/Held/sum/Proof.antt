@@ -11,10 +11,6 @@ use Rattle.bucket.specs.Sums.{firstSum}
 use Rattle.bucket.proofs.Totals.{sum-own, own-small}
 use Rattle.bucket.proofs.Held.sum.Statement.{statement}
 use Rattle.bucket.proofs.Held.sum.Tie as tie
-use Rattle.bucket.proofs.Held.sum.Reads as reads
-use Rattle.bucket.proofs.Held.sum.Lts as lts
-use Rattle.bucket.proofs.sums.sum_first.Reads as sum-first-reads
-use Rattle.packed.proofs.pow2.Reads as pow2-reads
 
 four : (c : tie.Start) → length (c .args .self .bucket .upper) ≡ 4
 four c = search needs

@@ -25,7 +25,9 @@ add-copy : tie.Need-add-copy
 add-copy c = search needs
 
 copy-requires-2 : tie.Need-copy-requires-2
-copy-requires-2 c κs = let r = has (c .before .before .before .before .before) in (omega (arith, r .upper), omega (arith, r .inside))
+copy-requires-2 c κs =
+    let r = has (c .before .before .before .before .before) in
+    (omega (arith, r .upper), omega (arith, r .inside))
 
 mul-t15 : tie.Need-mul-t15
 mul-t15 c = search needs
@@ -43,7 +45,9 @@ mul-t22 : tie.Need-mul-t22
 mul-t22 c = let r = has (c .before .before .before .before .before .before .before .before) in omega (arith, r .inside)
 
 shared-slice-read-t24 : tie.Need-shared-slice-read-t24
-shared-slice-read-t24 c = let r = has (c .before .before .before .before .before .before .before .before .before) in omega (arith, r .inside)
+shared-slice-read-t24 c =
+    let r = has (c .before .before .before .before .before .before .before .before .before) in
+    omega (arith, r .inside)
 
 returns : tie.Need-returns
 returns c =

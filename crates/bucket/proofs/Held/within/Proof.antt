@@ -12,10 +12,6 @@ use Rattle.bucket.specs.Held.{ownOf}
 use Rattle.bucket.proofs.Totals.{Most, own-most}
 use Rattle.bucket.proofs.Held.within.Statement.{statement}
 use Rattle.bucket.proofs.Held.within.Tie as tie
-use Rattle.bucket.proofs.Held.within.Reads as reads
-use Rattle.bucket.proofs.Held.within.Lts as lts
-use Rattle.bucket.proofs.Held.sum.Reads as sum-reads
-use Rattle.packed.proofs.pow2.Reads as pow2-reads
 
 four : (c : tie.Start) → length (c .args .self .bucket .upper) ≡ 4
 four c = search needs

@@ -9,7 +9,9 @@ pow2-requires : tie.Need-pow2-requires
 pow2-requires c κs = search needs
 
 bound : (c : tie.After-pow2) → c .before .args .packed * c .pow2 .result + c .before .args .m < 2 ^ 64
-bound c = let p = c .before .pre in rw (c .pow2 .ensures .0) (joined-lt (c .before .args .packed) (c .before .args .k) (c .before .args .m) (p .0) (p .1) (p .2))
+bound c =
+    let p = c .before .pre in
+    rw (c .pow2 .ensures .0) (joined-lt (c .before .args .packed) (c .before .args .k) (c .before .args .m) (p .0) (p .1) (p .2))
 
 mul-result : tie.Need-mul-result
 mul-result c = omega (arith, bound c)

@@ -167,7 +167,9 @@ value t c =
 
 small : (t : ℕ) (c : judge-from-lts.After-pow22 (callees t) (judge-from-at t) judge-from.Post)
     → c .before .before .on .given .0 .0 * c .pow22 .result + c .before .before .before .before .before .before .before .own .given .0 .0 < 2 ^ 63
-small t c = let s = c .before .before .before .before .before .before .before .before .before .before .before .before .before .before .before in judged-small (s .pre .1 .0) (s .args .t2) (s .args .marks) (s .args .n) _ (s .pre .1 .2) (value t c)
+small t c =
+    let s = c .before .before .before .before .before .before .before .before .before .before .before .before .before .before .before in
+    judged-small (s .pre .1 .0) (s .args .t2) (s .args .marks) (s .args .n) _ (s .pre .1 .2) (value t c)
 
 judge-from-mul-t32 : (t : ℕ) → judge-from-lts.Need-mul-t32 (callees t) (judge-from-at t) judge-from.Post
 judge-from-mul-t32 t c = omega (arith, small t c)

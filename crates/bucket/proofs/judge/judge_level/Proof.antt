@@ -6,9 +6,6 @@ use native.Mathlib.Omega.{arith}
 use Rattle.bucket.proofs.Judging.{Judging, judging, empty, next, total-small, high-cells, high-marks, all-judged}
 use Rattle.bucket.proofs.judge.judge_level.Statement.{statement}
 use Rattle.bucket.proofs.judge.judge_level.Tie as tie
-use Rattle.bucket.proofs.judge.judge_level.Reads as reads
-use Rattle.bucket.proofs.judge.judge_level.Lts as lts
-use Rattle.packed.proofs.pow2.Reads as pow2-reads
 
 abbrev Inv-loop : tie.InvT-loop
 Inv-loop cells marks w n p x₀ m₀ left₀ total₀ x m left total = Judging w n cells marks total x m left

@@ -83,7 +83,9 @@ sub-read-from : (t : ℕ) → lts.Need-sub-read-from (callees t) (asked t) read-
 sub-read-from t c = search needs
 
 add-read-from : (t : ℕ) → lts.Need-add-read-from (callees t) (asked t) read-from.Post
-add-read-from t c = let p = c .before .before .before .before .before .before .before .before .pre .1 in omega (arith, here (p .0) (p .1))
+add-read-from t c =
+    let p = c .before .before .before .before .before .before .before .before .pre .1 in
+    omega (arith, here (p .0) (p .1))
 
 read-from-requires : (t : ℕ) → lts.Need-read-from-requires (callees t) (asked t) read-from.Post
 read-from-requires t c κs =
@@ -91,7 +93,9 @@ read-from-requires t c κs =
     (omega (arith, p .0), (at-next (p .1 .0) (p .1 .1), omega arith, omega arith))
 
 pow2-requires-2 : (t : ℕ) → lts.Need-pow2-requires-2 (callees t) (asked t) read-from.Post
-pow2-requires-2 t c κs = let p = c .before .before .before .before .before .before .before .before .before .pre .1 in omega (arith, here (p .0) (p .1))
+pow2-requires-2 t c κs =
+    let p = c .before .before .before .before .before .before .before .before .before .pre .1 in
+    omega (arith, here (p .0) (p .1))
 
 -- the sum is the count, which fits
 value : (t : ℕ) (c : lts.After-pow22 (callees t) (asked t) read-from.Post) → let a = c .before .before .before .before .before .before .before .before .before .before .args in

@@ -6,9 +6,6 @@ use lib.ListN.{getD}
 use Rattle.bucket.proofs.Drawing.{draw-in, word-left, draw-over, drawn-small}
 use Rattle.bucket.proofs.sums.draw.Statement.{statement}
 use Rattle.bucket.proofs.sums.draw.Tie as tie
-use Rattle.bucket.proofs.sums.draw.Reads as reads
-use Rattle.bucket.proofs.sums.draw.Lts as lts
-use Rattle.packed.proofs.pow2.Reads as pow2-reads
 
 -- the total after an entry from what is left, and after one that takes bits of the next word
 in-small : (c : tie.After-pow2) → c .before .before .args .d .total + c .before .before .args .d .rest % c .pow2 .result < 2 ^ 63

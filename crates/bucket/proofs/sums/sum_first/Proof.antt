@@ -13,9 +13,6 @@ use Rattle.bucket.proofs.Totals.{sum-first}
 use Rattle.bucket.proofs.Drawing.{none-drawn}
 use Rattle.bucket.proofs.sums.sum_first.Statement.{statement}
 use Rattle.bucket.proofs.sums.sum_first.Tie as tie
-use Rattle.bucket.proofs.sums.sum_first.Reads as reads
-use Rattle.bucket.proofs.sums.sum_first.Lts as lts
-use Rattle.bucket.proofs.sums.draw.Reads as draw-reads
 
 abbrev Inv-loop : tie.InvT-loop
 Inv-loop w ws d₀ a₀ d a = (a ≤ 64) × Drawing ws w a (d .total) (d .rest) (d .bits) (d .q)

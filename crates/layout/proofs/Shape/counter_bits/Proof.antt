@@ -3,42 +3,31 @@ use native.Mathlib.Omega.{arith}
 use Rattle.layout.proofs.Shapes.{facts, widths-sum, counter-bits}
 use Rattle.layout.proofs.Shape.counter_bits.Statement.{statement}
 use Rattle.layout.proofs.Shape.counter_bits.Tie as tie
-use Rattle.layout.proofs.Shape.counter_bits.Reads as reads
-use Rattle.layout.proofs.Shape.counter_bits.Lts as lts
 
--- src/lib.rt:70:22
 element-copy-out-result : tie.Need-element-copy-out-result
 element-copy-out-result c = search needs
 
--- src/lib.rt:70:9
 add-result : tie.Need-add-result
 add-result c = omega (arith, widths-sum (c .before .args .t1) (c .before .pre), facts (c .before .args .t1) (c .before .pre) .widths, facts (c .before .args .t1) (c .before .pre) .first .1)
 
--- src/lib.rt:70:39
 element-copy-out-result-2 : tie.Need-element-copy-out-result-2
 element-copy-out-result-2 c = search needs
 
--- src/lib.rt:70:9
 add-result-2 : tie.Need-add-result-2
 add-result-2 c = omega (arith, widths-sum (c .before .before .args .t1) (c .before .before .pre), facts (c .before .before .args .t1) (c .before .before .pre) .widths, facts (c .before .before .args .t1) (c .before .before .pre) .first .1)
 
--- src/lib.rt:70:56
 element-copy-out-result-3 : tie.Need-element-copy-out-result-3
 element-copy-out-result-3 c = search needs
 
--- src/lib.rt:70:9
 add-result-3 : tie.Need-add-result-3
 add-result-3 c = omega (arith, widths-sum (c .before .before .before .args .t1) (c .before .before .before .pre), facts (c .before .before .before .args .t1) (c .before .before .before .pre) .widths, facts (c .before .before .before .args .t1) (c .before .before .before .pre) .first .1)
 
--- src/lib.rt:70:73
 element-copy-out-result-4 : tie.Need-element-copy-out-result-4
 element-copy-out-result-4 c = search needs
 
--- src/lib.rt:70:9
 add-result-4 : tie.Need-add-result-4
 add-result-4 c = omega (arith, widths-sum (c .before .before .before .before .args .t1) (c .before .before .before .before .pre), facts (c .before .before .before .before .args .t1) (c .before .before .before .before .pre) .widths, facts (c .before .before .before .before .args .t1) (c .before .before .before .before .pre) .first .1)
 
--- src/lib.rt:66:5
 returns : tie.Need-returns
 returns c = let s = c .before .before .before .before .args .t1 in omega (arith, counter-bits s (c .before .before .before .before .pre))
 

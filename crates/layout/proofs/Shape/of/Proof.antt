@@ -1,48 +1,34 @@
 use borrow.Author.Needs.{needs}
 use Rattle.layout.proofs.Shape.of.Statement.{statement}
 use Rattle.layout.proofs.Shape.of.Tie as tie
-use Rattle.layout.proofs.Shape.of.Reads as reads
-use Rattle.layout.proofs.Shape.of.Lts as lts
-use Rattle.layout.proofs.table_entries.Reads as table-entries-reads
-use Rattle.layout.proofs.table_width.Reads as table-width-reads
 
--- src/lib.rt:48:21
 sub-t3 : tie.Need-sub-t3
 sub-t3 c = search needs
 
--- src/lib.rt:51:17
 table-entries-requires : tie.Need-table-entries-requires
 table-entries-requires c κs = search needs
 
--- src/lib.rt:52:17
 table-entries-requires-2 : tie.Need-table-entries-requires-2
 table-entries-requires-2 c κs = search needs
 
--- src/lib.rt:53:17
 table-entries-requires-3 : tie.Need-table-entries-requires-3
 table-entries-requires-3 c κs = search needs
 
--- src/lib.rt:54:17
 table-entries-requires-4 : tie.Need-table-entries-requires-4
 table-entries-requires-4 c κs = search needs
 
--- src/lib.rt:57:17
 table-width-requires : tie.Need-table-width-requires
 table-width-requires c κs = search needs
 
--- src/lib.rt:58:17
 table-width-requires-2 : tie.Need-table-width-requires-2
 table-width-requires-2 c κs = search needs
 
--- src/lib.rt:59:17
 table-width-requires-3 : tie.Need-table-width-requires-3
 table-width-requires-3 c κs = search needs
 
--- src/lib.rt:60:17
 table-width-requires-4 : tie.Need-table-width-requires-4
 table-width-requires-4 c κs = search needs
 
--- src/lib.rt:43:5
 returns : tie.Need-returns
 returns c = cc
 

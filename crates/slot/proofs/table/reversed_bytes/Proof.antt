@@ -1,13 +1,10 @@
 use borrow.Author.Needs.{needs}
 use mathlib.Core.Path.{_≡_, ap₂}
-use Prim.Native.Nat.{ℕ, _+_, _*_, _<_}
+use Prim.Native.Nat.{_+_, _*_, _<_}
 use Rattle.model.specs.Slots.{slot}
 use Rattle.slot.proofs.Bytes.{entry-slot}
 use Rattle.slot.proofs.table.reversed_bytes.Statement.{statement}
 use Rattle.slot.proofs.table.reversed_bytes.Tie as tie
-use Rattle.slot.proofs.table.reversed_bytes.Reads as reads
-use Rattle.slot.proofs.table.reversed_bytes.Lts as lts
-use Rattle.slot.proofs.table.wide.Reads as wide-reads
 
 -- `rw` reads the table off the goal; its test computes to `Unit`, and both conditions of the law are found here
 one : (c : tie.After-wide) → c .wide .result ≡ slot 8 (c .before .args .first)
@@ -28,47 +25,36 @@ three c =
     let right : Unit {0} = tt in
     rw (c .wide3 .ensures .0, entry-slot 8)
 
--- src/table.rt:277:21
 array-read-wide : tie.Need-array-read-wide
 array-read-wide c = search needs
 
--- src/table.rt:277:9
 wide-requires : tie.Need-wide-requires
 wide-requires c κs = search needs
 
--- src/table.rt:278:23
 array-read-wide-2 : tie.Need-array-read-wide-2
 array-read-wide-2 c = search needs
 
--- src/table.rt:278:9
 wide-requires-2 : tie.Need-wide-requires-2
 wide-requires-2 c κs = search needs
 
--- src/table.rt:279:5
 mul-result : tie.Need-mul-result
 mul-result c = search needs
 
--- src/table.rt:279:20
 mul-result-2 : tie.Need-mul-result-2
 mul-result-2 c = search needs
 
--- src/table.rt:279:5
 add-result : tie.Need-add-result
 add-result c = search needs
 
--- src/table.rt:279:40
 array-read-wide-3 : tie.Need-array-read-wide-3
 array-read-wide-3 c = search needs
 
--- src/table.rt:279:35
 wide-requires-3 : tie.Need-wide-requires-3
 wide-requires-3 c κs = search needs
 
--- src/table.rt:279:5
 add-result-2 : tie.Need-add-result-2
 add-result-2 c = search needs
 
--- src/table.rt:272:1
 returns : tie.Need-returns
 returns c = ap₂ _+_ (ap₂ (λ x y. x * 65536 + y * 256) (one (c .before .before)) (two (c .before))) (three c)
 

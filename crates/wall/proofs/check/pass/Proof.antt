@@ -19,7 +19,9 @@ abbrev μ-loop : tie.MeasureT-loop
 μ-loop words v n seen₀ t₀ i₀ seen t i = n - i
 
 all-buckets : (c : tie.After-buckets Inv-loop μ-loop) → c .buckets .result ≡ bucketsIn (parse (c .before .before .args .words .now) .header)
-all-buckets c = let s = c .before .before in c .buckets .ensures .0 ∙ ap (λ (h : Header). bucketsIn h) (open-header (s .args .words .now) (s .args .v) (s .pre))
+all-buckets c =
+    let s = c .before .before in
+    c .buckets .ensures .0 ∙ ap (λ (h : Header). bucketsIn h) (open-header (s .args .words .now) (s .args .v) (s .pre))
 
 buckets-requires : tie.Need-buckets-requires Inv-loop μ-loop
 buckets-requires c κs = open-known (c .before .args .words .now) (c .before .args .v) (c .before .pre)

@@ -14,13 +14,19 @@ same-used : (c : tie.Start) → c .args .v .used ≡ parse (c .args .words .now)
 same-used c = ap (λ (h : Header). h .used) (open-header (c .args .words .now) (c .args .v) (c .pre .0))
 
 returns : tie.Need-returns
-returns c = let s = c .before .before .before .before in rest-sum (parse (s .args .words .now)) (s .args .t) (s .pre .1) (λ e. c .if1 .taken (e ∙ sym (same-total s)))
+returns c =
+    let s = c .before .before .before .before in
+    rest-sum (parse (s .args .words .now)) (s .args .t) (s .pre .1) (λ e. c .if1 .taken (e ∙ sym (same-total s)))
 
 returns-2 : tie.Need-returns-2
-returns-2 c = let s = c .before .before .before .before .before .before .before in rest-flags (parse (s .args .words .now)) (s .args .t) (s .pre .1) (λ e. c .if2 .taken (e ∙ sym (same-used s)))
+returns-2 c =
+    let s = c .before .before .before .before .before .before .before in
+    rest-flags (parse (s .args .words .now)) (s .args .t) (s .pre .1) (λ e. c .if2 .taken (e ∙ sym (same-used s)))
 
 returns-3 : tie.Need-returns-3
-returns-3 c = let s = c .before .before .before .before .before .before .before .before .before in rest-again (parse (s .args .words .now)) (s .args .t) (s .pre .1) (c .if3 .taken)
+returns-3 c =
+    let s = c .before .before .before .before .before .before .before .before .before in
+    rest-again (parse (s .args .words .now)) (s .args .t) (s .pre .1) (c .if3 .taken)
 
 fulls-zero-requires : tie.Need-fulls-zero-requires
 fulls-zero-requires c κs = search needs

@@ -8,8 +8,6 @@ use lib.ListN.{length, drop, set, replicate, length-set}
 use lib.Seq.{drop-length}
 use Rattle.wall.proofs.fresh.clear.Statement.{statement}
 use Rattle.wall.proofs.fresh.clear.Tie as tie
-use Rattle.wall.proofs.fresh.clear.Reads as reads
-use Rattle.wall.proofs.fresh.clear.Lts as lts
 
 abbrev Inv-loop : tie.InvT-loop
 Inv-loop words₀ i₀ words i = (i ≤ length words₀) × (words ≡ replicate i 0 ++ drop i words₀) × (length words ≡ length words₀)
@@ -17,27 +15,21 @@ Inv-loop words₀ i₀ words i = (i ≤ length words₀) × (words ≡ replicate
 abbrev μ-loop : tie.MeasureT-loop
 μ-loop words₀ i₀ words i = length words₀ - i
 
--- src/fresh.rt:20:5
 loop-holds : tie.Need-loop-holds Inv-loop μ-loop
 loop-holds c = search needs
 
--- src/fresh.rt:21:9
 mul-words : tie.Need-mul-words Inv-loop μ-loop
 mul-words c = search needs
 
--- src/fresh.rt:21:9
 slice-write-words : tie.Need-slice-write-words Inv-loop μ-loop
 slice-write-words c = search needs
 
--- src/fresh.rt:22:9
 add-i : tie.Need-add-i Inv-loop μ-loop
 add-i c = search needs
 
--- src/fresh.rt:20:5
 loop-less : tie.Need-loop-less Inv-loop μ-loop
 loop-less c = search needs
 
--- src/fresh.rt:20:5
 loop-again : tie.Need-loop-again Inv-loop μ-loop
 loop-again c =
     let a = c .before .before .args in
@@ -45,11 +37,9 @@ loop-again c =
     let i = c .before .loop .i in
     (search needs, ap (λ (l : List ℕ). set l i 0) (h .1) ∙ fill-more i 0 (a .words .now) (omega arith), simp length-set (omega arith))
 
--- src/fresh.rt:16:1
 same-length : tie.Need-same-length Inv-loop μ-loop
 same-length c = search needs
 
--- src/fresh.rt:16:1
 returns : tie.Need-returns Inv-loop μ-loop
 returns c =
     let a = c .before .before .args in

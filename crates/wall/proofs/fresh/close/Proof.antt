@@ -1,57 +1,41 @@
 use borrow.Author.Needs.{needs}
 use Rattle.answer.proofs.Said.{said}
-use mathlib.Core.Path.{_≡_, sym, ap, ap₂, _∙_}
+use mathlib.Core.Path.{sym, ap, _∙_}
 use mathlib.Core.List.{List}
 use Prim.Native.Nat.{ℕ}
 use Rattle.wall.proofs.Starting.{not-opened, close-7, opened-writes, opened-closes}
 use Rattle.wall.proofs.fresh.close.Statement.{statement}
 use Rattle.wall.proofs.fresh.close.Tie as tie
-use Rattle.wall.proofs.fresh.close.Reads as reads
-use Rattle.wall.proofs.fresh.close.Lts as lts
-use Rattle.answer.proofs.Answer.done.Reads as done-reads
-use Rattle.answer.proofs.Answer.refused.Reads as refused-reads
-use Rattle.wall.proofs.fresh.write.Reads as write-reads
-use Rattle.wall.proofs.header.open.Reads as open-reads
 
--- src/fresh.rt:77:27
 open-requires : tie.Need-open-requires
 open-requires c κs = search needs
 
--- src/fresh.rt:77:22
 enum-known-v : tie.Need-enum-known-v
 enum-known-v c = search needs
 
--- src/fresh.rt:78:9
 enum-told : tie.Need-enum-told
 enum-told c = search needs
 
--- src/fresh.rt:78:9
 refused-requires : tie.Need-refused-requires
 refused-requires c κs = search needs
 
--- src/fresh.rt:78:9
 same-length : tie.Need-same-length
 same-length c = search needs
 
--- src/fresh.rt:78:9
 returns : tie.Need-returns
 returns c =
     let ws = c .before .before .before .before .before .before .args .words .now in
     said (c .refused .result) 7 0 ws (c .refused .ensures) ∙ close-7 ws (not-opened ws (sym (c .before .enum-told .given .1) ∙ c .before .before .before .«open» .ensures))
 
--- src/fresh.rt:80:5
 write-requires : tie.Need-write-requires
 write-requires c κs = opened-writes (c .before .before .before .before .before .before .before .args .words .now) (c .before .before .v .given .0 .0) (sym (c .before .before .v .given .1) ∙ c .before .before .before .before .«open» .ensures)
 
--- src/fresh.rt:81:5
 done-requires : tie.Need-done-requires
 done-requires c κs = search needs
 
--- src/fresh.rt:74:1
 same-length-2 : tie.Need-same-length-2
 same-length-2 c = search needs
 
--- src/fresh.rt:74:1
 returns-2 : tie.Need-returns-2
 returns-2 c =
     let ws = c .before .before .before .before .before .before .before .before .before .before .before .args .words .now in

@@ -1,5 +1,5 @@
 use borrow.Author.Needs.{needs}
-use mathlib.Core.Path.{_≡_, refl, sym, ap, _∙_}
+use mathlib.Core.Path.{refl, sym, ap, _∙_}
 use mathlib.Core.List.{List}
 use Prim.Native.Nat.{ℕ}
 use Rattle.model.specs.Shapes.{knownShape}
@@ -11,52 +11,33 @@ use Rattle.wall.proofs.Opening.{passed, failed}
 use Rattle.wall.proofs.Starting.{known-at, at-asked, full-most, raise-0, raise-1, raise-2, raise-3, raise-4, raise-5, raise-6}
 use Rattle.wall.proofs.fresh.raise.Statement.{statement}
 use Rattle.wall.proofs.fresh.raise.Tie as tie
-use Rattle.wall.proofs.fresh.raise.Reads as reads
-use Rattle.wall.proofs.fresh.raise.Lts as lts
-use Rattle.answer.proofs.Answer.done.Reads as done-reads
-use Rattle.answer.proofs.Answer.refused.Reads as refused-reads
-use Rattle.layout.proofs.Wall.width_asked.Reads as width-asked-reads
-use Rattle.slot.proofs.known_bits.Reads as known-bits-reads
-use Rattle.wall.proofs.fresh.write.Reads as write-reads
-use Rattle.wall.proofs.header.full_fits.Reads as full-fits-reads
-use Rattle.wall.proofs.header.known_shape.Reads as known-shape-reads
-use Rattle.wall.proofs.header.limit_fits.Reads as limit-fits-reads
-use Rattle.wall.proofs.header.size.Reads as size-reads
 
--- src/fresh.rt:41:9
 known-shape-requires : tie.Need-known-shape-requires
 known-shape-requires c κs = search needs
 
--- src/fresh.rt:42:9
 refused-requires : tie.Need-refused-requires
 refused-requires c κs = search needs
 
--- src/fresh.rt:42:9
 returns : tie.Need-returns
 returns c =
     let a = c .before .before .before .before .args in
     said (c .refused .result) 1 0 (a .words .now) (c .refused .ensures) ∙ raise-1 (a .shape) (a .width) (a .bits) (a .limit) (a .full) (a .words .now) (failed (c .before .before .known-shape .result) (knownShape (a .shape)) (c .before .before .known-shape .ensures) (c .before .if1 .taken))
 
--- src/fresh.rt:45:9
 refused-requires-2 : tie.Need-refused-requires-2
 refused-requires-2 c κs = search needs
 
--- src/fresh.rt:45:9
 returns-2 : tie.Need-returns-2
 returns-2 c =
     let a = c .before .before .before .before .before .args in
     let s = passed (c .before .before .before .known-shape .result) (knownShape (a .shape)) (c .before .before .before .known-shape .ensures) (c .before .before .if1 .left) in
     said (c .refused2 .result) 2 0 (a .words .now) (c .refused2 .ensures) ∙ raise-2 (a .shape) (a .width) (a .bits) (a .limit) (a .full) (a .words .now) s (c .before .if2 .taken)
 
--- src/fresh.rt:47:9
 known-bits-requires : tie.Need-known-bits-requires
 known-bits-requires c κs = search needs
 
--- src/fresh.rt:48:9
 refused-requires-3 : tie.Need-refused-requires-3
 refused-requires-3 c κs = search needs
 
--- src/fresh.rt:48:9
 returns-3 : tie.Need-returns-3
 returns-3 c =
     let a = c .before .before .before .before .before .before .before .args in
@@ -64,11 +45,9 @@ returns-3 c =
     let l = c .before .before .before .if2 .left in
     said (c .refused3 .result) 3 0 (a .words .now) (c .refused3 .ensures) ∙ raise-3 (a .shape) (a .width) (a .bits) (a .limit) (a .full) (a .words .now) s l (failed (c .before .before .known-bits .result) (knownBits (a .bits)) (c .before .before .known-bits .ensures) (c .before .if3 .taken))
 
--- src/fresh.rt:52:16
 width-asked-requires : tie.Need-width-asked-requires
 width-asked-requires c κs = search needs
 
--- src/fresh.rt:60:9
 limit-fits-requires : tie.Need-limit-fits-requires
 limit-fits-requires c κs =
     let a = c .before .before .before .before .before .before .before .args in
@@ -78,11 +57,9 @@ limit-fits-requires c κs =
     let u = c .width-asked in
     known-at (a .shape) (a .width) (u .result) (a .bits) (a .limit) (a .full) s l (u .ensures) k
 
--- src/fresh.rt:61:9
 refused-requires-4 : tie.Need-refused-requires-4
 refused-requires-4 c κs = search needs
 
--- src/fresh.rt:61:9
 returns-4 : tie.Need-returns-4
 returns-4 c =
     let a = c .before .before .before .before .before .before .before .before .before .before .args in
@@ -92,7 +69,6 @@ returns-4 c =
     let u = c .before .before .before .width-asked in
     said (c .refused4 .result) 4 0 (a .words .now) (c .refused4 .ensures) ∙ raise-4 (a .shape) (a .width) (a .bits) (a .limit) (a .full) (a .words .now) s l k (failed (c .before .before .limit-fits .result) (limitFits (asked (a .shape) (a .width) (a .bits) (a .limit) (a .full))) (c .before .before .limit-fits .ensures ∙ at-asked limitFits (a .shape) (a .width) (u .result) (a .bits) (a .limit) (a .full) (u .ensures)) (c .before .if4 .taken))
 
--- src/fresh.rt:63:9
 full-fits-requires : tie.Need-full-fits-requires
 full-fits-requires c κs =
     let a = c .before .before .before .before .before .before .before .before .before .args in
@@ -102,11 +78,9 @@ full-fits-requires c κs =
     let u = c .before .before .width-asked in
     known-at (a .shape) (a .width) (u .result) (a .bits) (a .limit) (a .full) s l (u .ensures) k
 
--- src/fresh.rt:64:9
 refused-requires-5 : tie.Need-refused-requires-5
 refused-requires-5 c κs = search needs
 
--- src/fresh.rt:64:9
 returns-5 : tie.Need-returns-5
 returns-5 c =
     let a = c .before .before .before .before .before .before .before .before .before .before .before .before .args in
@@ -117,7 +91,6 @@ returns-5 c =
     let f = passed (c .before .before .before .before .limit-fits .result) (limitFits (asked (a .shape) (a .width) (a .bits) (a .limit) (a .full))) (c .before .before .before .before .limit-fits .ensures ∙ at-asked limitFits (a .shape) (a .width) (u .result) (a .bits) (a .limit) (a .full) (u .ensures)) (c .before .before .before .if4 .left) in
     said (c .refused5 .result) 5 0 (a .words .now) (c .refused5 .ensures) ∙ raise-5 (a .shape) (a .width) (a .bits) (a .limit) (a .full) (a .words .now) s l k f (failed (c .before .before .full-fits .result) (fullFits (asked (a .shape) (a .width) (a .bits) (a .limit) (a .full))) (c .before .before .full-fits .ensures ∙ at-asked fullFits (a .shape) (a .width) (u .result) (a .bits) (a .limit) (a .full) (u .ensures)) (c .before .if5 .taken))
 
--- src/fresh.rt:66:30
 size-requires : tie.Need-size-requires
 size-requires c κs =
     let a = c .before .before .before .before .before .before .before .before .before .before .before .args in
@@ -129,11 +102,9 @@ size-requires c κs =
     let g = passed (c .before .full-fits .result) (fullFits (asked (a .shape) (a .width) (a .bits) (a .limit) (a .full))) (c .before .full-fits .ensures ∙ at-asked fullFits (a .shape) (a .width) (u .result) (a .bits) (a .limit) (a .full) (u .ensures)) (c .if5 .left) in
     (known-at (a .shape) (a .width) (u .result) (a .bits) (a .limit) (a .full) s l (u .ensures) k, full-most (asked (a .shape) (a .width) (a .bits) (a .limit) (a .full)) g)
 
--- src/fresh.rt:67:9
 refused-requires-6 : tie.Need-refused-requires-6
 refused-requires-6 c κs = search needs
 
--- src/fresh.rt:67:9
 returns-6 : tie.Need-returns-6
 returns-6 c =
     let a = c .before .before .before .before .before .before .before .before .before .before .before .before .before .before .args in
@@ -145,7 +116,6 @@ returns-6 c =
     let g = passed (c .before .before .before .before .full-fits .result) (fullFits (asked (a .shape) (a .width) (a .bits) (a .limit) (a .full))) (c .before .before .before .before .full-fits .ensures ∙ at-asked fullFits (a .shape) (a .width) (u .result) (a .bits) (a .limit) (a .full) (u .ensures)) (c .before .before .before .if5 .left) in
     said (c .refused6 .result) 6 0 (a .words .now) (c .refused6 .ensures) ∙ raise-6 (a .shape) (a .width) (a .bits) (a .limit) (a .full) (a .words .now) s l k f g (λ e. c .before .if6 .taken (e ∙ sym (c .before .before .size .ensures ∙ at-asked wallSize (a .shape) (a .width) (u .result) (a .bits) (a .limit) (a .full) (u .ensures))))
 
--- src/fresh.rt:69:5
 write-requires : tie.Need-write-requires
 write-requires c κs =
     let a = c .before .before .before .before .before .before .before .before .before .before .before .before .before .before .args in
@@ -157,15 +127,12 @@ write-requires c κs =
     let g = passed (c .before .before .before .before .full-fits .result) (fullFits (asked (a .shape) (a .width) (a .bits) (a .limit) (a .full))) (c .before .before .before .before .full-fits .ensures ∙ at-asked fullFits (a .shape) (a .width) (u .result) (a .bits) (a .limit) (a .full) (u .ensures)) (c .before .before .before .if5 .left) in
     (known-at (a .shape) (a .width) (u .result) (a .bits) (a .limit) (a .full) s l (u .ensures) k, full-most (asked (a .shape) (a .width) (a .bits) (a .limit) (a .full)) g, refl, c .before .if6 .left ∙ c .before .before .size .ensures)
 
--- src/fresh.rt:70:5
 done-requires : tie.Need-done-requires
 done-requires c κs = search needs
 
--- src/fresh.rt:38:1
 same-length : tie.Need-same-length
 same-length c = search needs
 
--- src/fresh.rt:38:1
 returns-7 : tie.Need-returns-7
 returns-7 c =
     let a = c .before .before .before .before .before .before .before .before .before .before .before .before .before .before .before .before .before .before .args in

@@ -1,61 +1,54 @@
 use borrow.Author.Needs.{needs}
 use native.Mathlib.Omega.{arith}
-use mathlib.Core.Path.{_≡_, ap, _∙_}
+use mathlib.Core.Path.{ap, _∙_}
 use mathlib.Core.List.{List}
 use Prim.Native.Nat.{ℕ, _+_, _*_}
 use lib.ListN.{length, set, length-set}
 use Rattle.wall.proofs.Starting.{written}
 use Rattle.wall.proofs.fresh.write.Statement.{statement}
 use Rattle.wall.proofs.fresh.write.Tie as tie
-use Rattle.wall.proofs.fresh.write.Reads as reads
-use Rattle.wall.proofs.fresh.write.Lts as lts
-use Rattle.wall.proofs.fresh.clear.Reads as clear-reads
 
--- src/fresh.rt:31:5
 clear-requires : tie.Need-clear-requires
 clear-requires c κs = search needs
 
--- src/fresh.rt:32:16
 mul-words : tie.Need-mul-words
 mul-words c = search needs
 
--- src/fresh.rt:32:45
 mul-words-2 : tie.Need-mul-words-2
 mul-words-2 c = search needs
 
--- src/fresh.rt:32:16
 add-words : tie.Need-add-words
 add-words c = search needs
 
--- src/fresh.rt:32:73
 mul-words-3 : tie.Need-mul-words-3
 mul-words-3 c = search needs
 
--- src/fresh.rt:32:16
 add-words-2 : tie.Need-add-words-2
 add-words-2 c = search needs
 
--- src/fresh.rt:32:16
 add-words-3 : tie.Need-add-words-3
 add-words-3 c = search needs
 
--- src/fresh.rt:32:5
 slice-write-words : tie.Need-slice-write-words
 slice-write-words c = search needs
 
--- src/fresh.rt:33:5
 slice-write-words-2 : tie.Need-slice-write-words-2
-slice-write-words-2 c = let s = c .before .before .before .before .before .before .before .before in let k = s .pre .3 in let m = c .before .before .before .before .before .clear .kept .0 in simp length-set (omega (arith, k, m))
+slice-write-words-2 c =
+    let s = c .before .before .before .before .before .before .before .before in
+    let k = s .pre .3 in
+    let m = c .before .before .before .before .before .clear .kept .0 in
+    simp length-set (omega (arith, k, m))
 
--- src/fresh.rt:34:5
 slice-write-words-3 : tie.Need-slice-write-words-3
-slice-write-words-3 c = let s = c .before .before .before .before .before .before .before .before in let k = s .pre .3 in let m = c .before .before .before .before .before .clear .kept .0 in simp length-set (omega (arith, k, m))
+slice-write-words-3 c =
+    let s = c .before .before .before .before .before .before .before .before in
+    let k = s .pre .3 in
+    let m = c .before .before .before .before .before .clear .kept .0 in
+    simp length-set (omega (arith, k, m))
 
--- src/fresh.rt:27:1
 same-length : tie.Need-same-length
 same-length c = search needs
 
--- src/fresh.rt:27:1
 returns : tie.Need-returns
 returns c =
     let s = c .before .before .before .before .before .before .before .before in

@@ -3,18 +3,13 @@ use native.Mathlib.Omega.{arith}
 use Rattle.wall.proofs.Opening.{length-of-bucket}
 use Rattle.wall.proofs.header.bucket_length.Statement.{statement}
 use Rattle.wall.proofs.header.bucket_length.Tie as tie
-use Rattle.wall.proofs.header.bucket_length.Reads as reads
-use Rattle.wall.proofs.header.bucket_length.Lts as lts
 
--- src/header.rt:71:5
 add-result : tie.Need-add-result
 add-result c = search needs
 
--- src/header.rt:71:5
 add-result-2 : tie.Need-add-result-2
 add-result-2 c = search needs
 
--- src/header.rt:67:1
 returns : tie.Need-returns
 returns c = (length-of-bucket (c .before .args .v) (c .before .pre), omega arith)
 

@@ -2,28 +2,23 @@ use borrow.Author.Needs.{needs}
 use Rattle.wall.proofs.Opening.{fields-words}
 use Rattle.wall.proofs.header.fields.Statement.{statement}
 use Rattle.wall.proofs.header.fields.Tie as tie
-use Rattle.wall.proofs.header.fields.Reads as reads
-use Rattle.wall.proofs.header.fields.Lts as lts
 
--- src/header.rt:25:16
 shared-slice-read-head : tie.Need-shared-slice-read-head
 shared-slice-read-head c = search needs
 
--- src/header.rt:26:16
 shared-slice-read-full : tie.Need-shared-slice-read-full
 shared-slice-read-full c = search needs
 
--- src/header.rt:31:16
 shared-slice-read-t12 : tie.Need-shared-slice-read-t12
 shared-slice-read-t12 c = search needs
 
--- src/header.rt:32:16
 shared-slice-read-t14 : tie.Need-shared-slice-read-t14
 shared-slice-read-t14 c = search needs
 
--- src/header.rt:21:1
 returns : tie.Need-returns
-returns c = let ws = c .before .before .before .before .args .words .now in fields-words ws (c .before .before .before .shared-slice-known .given 0 .fits)
+returns c =
+    let ws = c .before .before .before .before .args .words .now in
+    fields-words ws (c .before .before .before .shared-slice-known .given 0 .fits)
 
 pub fields-spec : {M : Type 1} → statement M
 fields-spec =

@@ -6,21 +6,19 @@ use Rattle.layout.specs.Views.{headerOf}
 use Rattle.wall.proofs.Opening.{first-fails, second-decides}
 use Rattle.wall.proofs.header.full_fits.Statement.{statement}
 use Rattle.wall.proofs.header.full_fits.Tie as tie
-use Rattle.wall.proofs.header.full_fits.Reads as reads
-use Rattle.wall.proofs.header.full_fits.Lts as lts
-use Rattle.wall.proofs.header.buckets.Reads as buckets-reads
 
--- src/header.rt:95:8
 buckets-requires : tie.Need-buckets-requires
 buckets-requires c κs = search needs
 
--- src/header.rt:96:9
 returns : tie.Need-returns
-returns c = let v = c .before .before .before .args .v in first-fails (leb (v .full) (bucketsIn (headerOf v))) (leb (v .full) 4096) (λ t. omega (arith, leb→le (v .full) (bucketsIn (headerOf v)) t, c .before .before .buckets .ensures .0))
+returns c =
+    let v = c .before .before .before .args .v in
+    first-fails (leb (v .full) (bucketsIn (headerOf v))) (leb (v .full) 4096) (λ t. omega (arith, leb→le (v .full) (bucketsIn (headerOf v)) t, c .before .before .buckets .ensures .0))
 
--- src/header.rt:91:1
 returns-2 : tie.Need-returns-2
-returns-2 c = let v = c .before .before .before .before .args .v in second-decides (leb (v .full) (bucketsIn (headerOf v))) (leb (v .full) 4096) (le→leb (v .full) (bucketsIn (headerOf v)) (omega (arith, c .before .before .before .buckets .ensures .0)))
+returns-2 c =
+    let v = c .before .before .before .before .args .v in
+    second-decides (leb (v .full) (bucketsIn (headerOf v))) (leb (v .full) 4096) (le→leb (v .full) (bucketsIn (headerOf v)) (omega (arith, c .before .before .before .buckets .ensures .0)))
 
 pub full-fits-spec : {M : Type 1} → statement M
 full-fits-spec = tie.close (tie.spec buckets-requires returns returns-2)

@@ -4,14 +4,10 @@ use lib.Dec.{leb, leb→le, le→leb}
 use Rattle.wall.proofs.Opening.{first-fails, second-decides}
 use Rattle.wall.proofs.header.known_shape.Statement.{statement}
 use Rattle.wall.proofs.header.known_shape.Tie as tie
-use Rattle.wall.proofs.header.known_shape.Reads as reads
-use Rattle.wall.proofs.header.known_shape.Lts as lts
 
--- src/header.rt:43:9
 returns : tie.Need-returns
 returns c = let p = c .before .args .shape in first-fails (leb 3 p) (leb p 5) (λ t. omega (arith, leb→le 3 p t))
 
--- src/header.rt:39:1
 returns-2 : tie.Need-returns-2
 returns-2 c = let p = c .before .args .shape in second-decides (leb 3 p) (leb p 5) (le→leb 3 p (search needs))
 

@@ -1,6 +1,6 @@
 use borrow.Author.Needs.{needs}
 use native.Mathlib.Omega.{arith}
-use mathlib.Core.Path.{_≡_, refl, sym, ap, _∙_}
+use mathlib.Core.Path.{sym, ap, _∙_}
 use Prim.Native.Nat.{_^_}
 use lib.Dec.{leb, ltb, leb→le, le→leb}
 use Rattle.model.specs.Walls.{countEnd}
@@ -10,29 +10,21 @@ use mathlib.Core.Path.{subst}
 use Rattle.wall.proofs.Opening.{first-fails, second-decides, known-valid, counter-of, counter-most}
 use Rattle.wall.proofs.header.limit_fits.Statement.{statement}
 use Rattle.wall.proofs.header.limit_fits.Tie as tie
-use Rattle.wall.proofs.header.limit_fits.Reads as reads
-use Rattle.wall.proofs.header.limit_fits.Lts as lts
-use Rattle.layout.proofs.Shape.counter_bits.Reads as counter-bits-reads
-use Rattle.layout.proofs.Shape.of.Reads as of-reads
-use Rattle.packed.proofs.pow2.Reads as pow2-reads
 
--- src/header.rt:86:9
 returns : tie.Need-returns
-returns c = let v = c .before .before .args .v in first-fails (leb 1 (v .limit)) (ltb (v .limit) (countEnd (headerOf v))) (λ t. omega (arith, leb→le 1 (v .limit) t))
+returns c =
+    let v = c .before .before .args .v in
+    first-fails (leb 1 (v .limit)) (ltb (v .limit) (countEnd (headerOf v))) (λ t. omega (arith, leb→le 1 (v .limit) t))
 
--- src/header.rt:88:28
 of-requires : tie.Need-of-requires
 of-requires c κs = search needs
 
--- src/header.rt:88:28
 counter-bits-requires : tie.Need-counter-bits-requires
 counter-bits-requires c κs = subst Valid (sym (c .of .ensures)) (known-valid (c .before .before .before .args .v) (c .before .before .before .pre))
 
--- src/header.rt:88:15
 pow2-requires : tie.Need-pow2-requires
 pow2-requires c κs = counter-most (c .before .before .before .before .args .v) (c .before .of .result) (c .counter-bits .result) (c .before .before .before .before .pre) (c .before .of .ensures) (c .counter-bits .ensures)
 
--- src/header.rt:81:1
 returns-2 : tie.Need-returns-2
 returns-2 c =
     let v = c .before .before .before .before .before .before .args .v in

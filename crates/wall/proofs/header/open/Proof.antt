@@ -7,55 +7,37 @@ use Rattle.model.proofs.Headers.{shape-test, bits-test}
 use Rattle.wall.proofs.Opening.{opened-bad, mark-of, marked, fails-test, width-test, passed, known-of}
 use Rattle.wall.proofs.header.open.Statement.{statement}
 use Rattle.wall.proofs.header.open.Tie as tie
-use Rattle.wall.proofs.header.open.Reads as reads
-use Rattle.wall.proofs.header.open.Lts as lts
-use Rattle.slot.proofs.known_bits.Reads as known-bits-reads
-use Rattle.wall.proofs.header.fields.Reads as fields-reads
-use Rattle.wall.proofs.header.known_shape.Reads as known-shape-reads
-use Rattle.wall.proofs.header.open_sized.Reads as open-sized-reads
-use Rattle.wall.proofs.header.valid_width.Reads as valid-width-reads
 
--- src/header.rt:106:9
 returns : tie.Need-returns
 returns c = opened-bad (c .before .before .args .words .now) (λ g. omega (arith, g .long))
 
--- src/header.rt:108:8
 shared-slice-read-if2 : tie.Need-shared-slice-read-if2
 shared-slice-read-if2 c = search needs
 
--- src/header.rt:109:9
 returns-2 : tie.Need-returns-2
 returns-2 c = opened-bad (c .before .before .before .before .args .words .now) (λ g. c .if2 .taken (mark-of (c .before .before .before .before .args .words .now) g))
 
--- src/header.rt:111:9
 fields-requires : tie.Need-fields-requires
 fields-requires c κs = search needs
 
--- src/header.rt:112:9
 known-shape-requires : tie.Need-known-shape-requires
 known-shape-requires c κs = search needs
 
--- src/header.rt:113:9
 returns-3 : tie.Need-returns-3
 returns-3 c = fails-test (c .before .before .before .before .before .before .before .args .words .now) (c .before .before .fields .result) (c .before .before .fields .ensures) (λ (h : Header). knownShape (h .shape)) shape-test (c .before .known-shape .result) (c .before .known-shape .ensures) (c .if3 .taken)
 
--- src/header.rt:115:9
 valid-width-requires : tie.Need-valid-width-requires
 valid-width-requires c κs = search needs
 
--- src/header.rt:116:9
 returns-4 : tie.Need-returns-4
 returns-4 c = fails-test (c .before .before .before .before .before .before .before .before .before .args .words .now) (c .before .before .before .before .fields .result) (c .before .before .before .before .fields .ensures) (λ (h : Header). validWidth (h .width)) width-test (c .before .valid-width .result) (c .before .valid-width .ensures) (c .if4 .taken)
 
--- src/header.rt:118:9
 known-bits-requires : tie.Need-known-bits-requires
 known-bits-requires c κs = search needs
 
--- src/header.rt:119:9
 returns-5 : tie.Need-returns-5
 returns-5 c = fails-test (c .before .before .before .before .before .before .before .before .before .before .before .args .words .now) (c .before .before .before .before .before .before .fields .result) (c .before .before .before .before .before .before .fields .ensures) (λ (h : Header). knownBits (h .bits)) bits-test (c .before .known-bits .result) (c .before .known-bits .ensures) (c .if5 .taken)
 
--- src/header.rt:121:5
 open-sized-requires : tie.Need-open-sized-requires
 open-sized-requires c κs =
     let v = c .before .before .before .before .before .before .fields .result in
@@ -65,7 +47,6 @@ open-sized-requires c κs =
     let k = passed (c .before .known-bits .result) (knownBits (v .bits)) (c .before .known-bits .ensures) (c .if5 .left) in
     (known-of v s w k, marked ws (search needs) (c .before .before .before .before .before .before .before .if2 .left), c .before .before .before .before .before .before .fields .ensures)
 
--- src/header.rt:102:1
 returns-6 : tie.Need-returns-6
 returns-6 c = search needs
 

@@ -3,59 +3,56 @@ use lib.Dec.{leb, leb→le}
 use Rattle.model.specs.Walls.{bucketsIn}
 use Rattle.model.proofs.Tools.{and-tests}
 use native.Mathlib.Omega.{arith}
-use mathlib.Core.Path.{_≡_, refl, sym, ap, _∙_}
+use mathlib.Core.Path.{_∙_}
 use Rattle.model.specs.Walls.{limitFits, fullFits}
 use Rattle.model.proofs.Headers.{limit-test, full-test}
 use Rattle.layout.specs.Views.{headerOf}
 use Rattle.wall.proofs.Opening.{fails-test, fails-fact, fails-length, passes, passed}
 use Rattle.wall.proofs.header.open_sized.Statement.{statement}
 use Rattle.wall.proofs.header.open_sized.Tie as tie
-use Rattle.wall.proofs.header.open_sized.Reads as reads
-use Rattle.wall.proofs.header.open_sized.Lts as lts
-use Rattle.wall.proofs.header.full_fits.Reads as full-fits-reads
-use Rattle.wall.proofs.header.limit_fits.Reads as limit-fits-reads
-use Rattle.wall.proofs.header.size.Reads as size-reads
 
--- src/header.rt:129:9
 limit-fits-requires : tie.Need-limit-fits-requires
 limit-fits-requires c κs = search needs
 
--- src/header.rt:130:9
 returns : tie.Need-returns
-returns c = let s = c .before .before .before in fails-test (s .args .words .now) (s .args .v) (s .pre .2) limitFits limit-test (c .before .limit-fits .result) (c .before .limit-fits .ensures) (c .if1 .taken)
+returns c =
+    let s = c .before .before .before in
+    fails-test (s .args .words .now) (s .args .v) (s .pre .2) limitFits limit-test (c .before .limit-fits .result) (c .before .limit-fits .ensures) (c .if1 .taken)
 
--- src/header.rt:132:9
 full-fits-requires : tie.Need-full-fits-requires
 full-fits-requires c κs = search needs
 
--- src/header.rt:133:9
 returns-2 : tie.Need-returns-2
-returns-2 c = let s = c .before .before .before .before .before in fails-test (s .args .words .now) (s .args .v) (s .pre .2) fullFits full-test (c .before .full-fits .result) (c .before .full-fits .ensures) (c .if2 .taken)
+returns-2 c =
+    let s = c .before .before .before .before .before in
+    fails-test (s .args .words .now) (s .args .v) (s .pre .2) fullFits full-test (c .before .full-fits .result) (c .before .full-fits .ensures) (c .if2 .taken)
 
--- src/header.rt:136:9
 returns-3 : tie.Need-returns-3
-returns-3 c = let s = c .before .before .before .before .before .before .before in fails-fact (s .args .words .now) (s .args .v) (s .pre .2) (λ l. omega (arith, l .within))
+returns-3 c =
+    let s = c .before .before .before .before .before .before .before in
+    fails-fact (s .args .words .now) (s .args .v) (s .pre .2) (λ l. omega (arith, l .within))
 
--- src/header.rt:139:9
 returns-4 : tie.Need-returns-4
-returns-4 c = let s = c .before .before .before .before .before .before .before .before .before in fails-fact (s .args .words .now) (s .args .v) (s .pre .2) (λ l. omega (arith, l .spare-full))
+returns-4 c =
+    let s = c .before .before .before .before .before .before .before .before .before in
+    fails-fact (s .args .words .now) (s .args .v) (s .pre .2) (λ l. omega (arith, l .spare-full))
 
--- src/header.rt:142:9
 returns-5 : tie.Need-returns-5
-returns-5 c = let s = c .before .before .before .before .before .before .before .before .before .before .before in fails-fact (s .args .words .now) (s .args .v) (s .pre .2) (λ l. c .if5 .taken (l .spare-none))
+returns-5 c =
+    let s = c .before .before .before .before .before .before .before .before .before .before .before in
+    fails-fact (s .args .words .now) (s .args .v) (s .pre .2) (λ l. c .if5 .taken (l .spare-none))
 
--- src/header.rt:144:30
 size-requires : tie.Need-size-requires
 size-requires c κs =
     let s = c .before .before .before .before .before .before .before .before .before .before .before in
     let f = passed (c .before .before .before .before .before .before .before .full-fits .result) (fullFits (headerOf (s .args .v))) (c .before .before .before .before .before .before .before .full-fits .ensures) (c .before .before .before .before .before .before .if2 .left) in
     (s .pre .0, leb→le (s .args .v .full) 4096 (and-tests (leb (s .args .v .full) (bucketsIn (headerOf (s .args .v)))) (leb (s .args .v .full) 4096) f .1))
 
--- src/header.rt:145:9
 returns-6 : tie.Need-returns-6
-returns-6 c = let s = c .before .before .before .before .before .before .before .before .before .before .before .before .before in fails-length (s .args .words .now) (s .args .v) (s .pre .2) (c .before .size .result) (c .before .size .ensures) (c .if6 .taken)
+returns-6 c =
+    let s = c .before .before .before .before .before .before .before .before .before .before .before .before .before in
+    fails-length (s .args .words .now) (s .args .v) (s .pre .2) (c .before .size .result) (c .before .size .ensures) (c .if6 .taken)
 
--- src/header.rt:125:1
 returns-7 : tie.Need-returns-7
 returns-7 c =
     let s = c .before .before .before .before .before .before .before .before .before .before .before .before .before in

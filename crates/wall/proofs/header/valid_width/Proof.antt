@@ -4,14 +4,10 @@ use lib.Dec.{leb, leb→le, le→leb}
 use Rattle.wall.proofs.Opening.{first-fails, second-decides}
 use Rattle.wall.proofs.header.valid_width.Statement.{statement}
 use Rattle.wall.proofs.header.valid_width.Tie as tie
-use Rattle.wall.proofs.header.valid_width.Reads as reads
-use Rattle.wall.proofs.header.valid_width.Lts as lts
 
--- src/header.rt:52:9
 returns : tie.Need-returns
 returns c = let w = c .before .args .width in first-fails (leb 1 w) (leb w 16) (λ t. omega (arith, leb→le 1 w t))
 
--- src/header.rt:48:1
 returns-2 : tie.Need-returns-2
 returns-2 c = let w = c .before .args .width in second-decides (leb 1 w) (leb w 16) (le→leb 1 w (search needs))
 

@@ -8,7 +8,7 @@ use Prim.Native.Nat.{ℕ, _+_, _/_, _%_, _^_, _<_}
 use lib.Dec.{T, lit<}
 use lib.ListN.{getD}
 use Rattle.model.specs.Walls.{Header, flows, parse, bucketOf, countEnd}
-use Rattle.model.specs.Sound.{soundAt, countsAt, count}
+use Rattle.model.specs.Sound.{soundAt, count}
 use Rattle.model.specs.Calls.{Clear, bucketRefusals, stepRefusals}
 use Rattle.layout.specs.Views.{headerOf}
 use Rattle.answer.proofs.Said.{said}
@@ -23,16 +23,6 @@ use Rattle.wall.proofs.Finding.{is-open, meets-7, meets-8, meets-9, mee
 use Rattle.wall.proofs.Raising.{increment-refuses, meets-10, increment-step, one-more-fits}
 use Rattle.wall.proofs.increment.increment.Statement.{statement}
 use Rattle.wall.proofs.increment.increment.Tie as tie
-use Rattle.wall.proofs.increment.increment.Reads as reads
-use Rattle.wall.proofs.increment.increment.Lts as lts
-use Rattle.answer.proofs.Answer.refused.Reads as refused-reads
-use Rattle.packed.proofs.pow2.Reads as pow2-reads
-use Rattle.slot.proofs.reversed.Reads as reversed-reads
-use Rattle.wall.proofs.header.open.Reads as open-reads
-use Rattle.wall.proofs.increment.step.Reads as step-reads
-use Rattle.wall.proofs.judge.count.Reads as count-reads
-use Rattle.wall.proofs.judge.judge.Reads as judge-reads
-use Rattle.wall.proofs.place.take.Reads as take-reads
 
 opens : (c : tie.After-known-told) → Open (c .before .before .before .before .before .before .args .words .now) (c .before .v .given .0 .0)
 opens c = is-open (c .before .before .before .before .before .before .args .words .now) (c .before .v .given .0 .0) (sym (c .before .v .given .1) ∙ c .before .before .before .«open» .ensures)
@@ -76,109 +66,120 @@ counted c =
 fits : (c : tie.After-count) → c .count .result + 1 < countEnd (headerOf (c .before .before .before .before .before .before .before .before .before .before .before .before .before .before .v .given .0 .0))
 fits c = subst (λ n. n + 1 < countEnd (headerOf (c .before .before .before .before .before .before .before .before .before .before .before .before .before .before .v .given .0 .0))) (sym (counted c)) (one-more-fits (c .before .before .before .before .before .before .before .before .before .before .before .before .before .before .before .before .before .before .before .args .words .now) (c .before .before .before .before .before .before .before .before .before .before .before .before .before .before .before .before .before .before .before .args .flow) (c .before .before .before .before .before .before .before .before .before .before .before .before .before .before .v .given .0 .0) (opens (c .before .before .before .before .before .before .before .before .before .before .before .before .before)) (sound (c .before .before .before .before)) (c .before .before .if2 .left))
 
--- src/increment.rt:71:27
 open-requires : tie.Need-open-requires
 open-requires c κs = search needs
 
--- src/increment.rt:71:22
 enum-known-v : tie.Need-enum-known-v
 enum-known-v c = search needs
 
--- src/increment.rt:72:9
 enum-told : tie.Need-enum-told
 enum-told c = search needs
 
--- src/increment.rt:72:9
 refused-requires : tie.Need-refused-requires
 refused-requires c κs = search needs
 
--- src/increment.rt:72:9
 same-length : tie.Need-same-length
 same-length c = search needs
 
--- src/increment.rt:72:9
 returns : tie.Need-returns
-returns c = let ws = c .before .before .before .before .before .before .args .words .now in let y = c .before .before .before .before .before .before .args .flow in said (c .refused .result) 7 0 ws (c .refused .ensures) ∙ increment-refuses ws y 7 (lit< tt) (meets-7 ws y (stepRefusals (parse ws) y) (not-opened ws (sym (c .before .enum-told .given .1) ∙ c .before .before .before .«open» .ensures)))
+returns c =
+    let ws = c .before .before .before .before .before .before .args .words .now in
+    let y = c .before .before .before .before .before .before .args .flow in
+    said (c .refused .result) 7 0 ws (c .refused .ensures) ∙ increment-refuses ws y 7 (lit< tt) (meets-7 ws y (stepRefusals (parse ws) y) (not-opened ws (sym (c .before .enum-told .given .1) ∙ c .before .before .before .«open» .ensures)))
 
--- src/increment.rt:74:8
 pow2-requires : tie.Need-pow2-requires
 pow2-requires c κs = omega (arith, open-known (c .before .before .before .before .before .before .args .words .now) (c .before .v .given .0 .0) (opens c) .bits-high)
 
--- src/increment.rt:75:9
 refused-requires-2 : tie.Need-refused-requires-2
 refused-requires-2 c κs = search needs
 
--- src/increment.rt:75:9
 same-length-2 : tie.Need-same-length-2
 same-length-2 c = search needs
 
--- src/increment.rt:75:9
 returns-2 : tie.Need-returns-2
-returns-2 c = let ws = c .before .before .before .before .before .before .before .before .before .args .words .now in let y = c .before .before .before .before .before .before .before .before .before .args .flow in let v = c .before .before .before .before .v .given .0 .0 in let o = opens (c .before .before .before) in
+returns-2 c =
+    let ws = c .before .before .before .before .before .before .before .before .before .args .words .now in
+    let y = c .before .before .before .before .before .before .before .before .before .args .flow in
+    let v = c .before .before .before .before .v .given .0 .0 in
+    let o = opens (c .before .before .before) in
     said (c .refused2 .result) 8 0 ws (c .refused2 .ensures) ∙ increment-refuses ws y 8 (lit< tt) (meets-8 ws y (stepRefusals (parse ws) y) (o .good) (omega (arith, flows-of ws v o, c .before .before .pow2 .ensures .0, c .before .if1 .taken)))
 
--- src/increment.rt:77:9
 reversed-requires : tie.Need-reversed-requires
 reversed-requires c κs = (omega (arith, open-known (c .before .before .before .before .before .before .before .before .args .words .now) (c .before .before .before .v .given .0 .0) (opens (c .before .before)) .bits-high), flow c)
 
--- src/increment.rt:78:9
 take-requires : tie.Need-take-requires
-take-requires c κs = let ws = c .before .before .before .before .before .before .before .before .before .before .args .words .now in let y = c .before .before .before .before .before .before .before .before .before .before .args .flow in let v = c .before .before .before .before .before .v .given .0 .0 in let o = opens (c .before .before .before .before) in (o, bucket-in ws v o y (c .before .reversed .result) (c .before .reversed .ensures .0))
+take-requires c κs =
+    let ws = c .before .before .before .before .before .before .before .before .before .before .args .words .now in
+    let y = c .before .before .before .before .before .before .before .before .before .before .args .flow in
+    let v = c .before .before .before .before .before .v .given .0 .0 in
+    let o = opens (c .before .before .before .before) in
+    (o, bucket-in ws v o y (c .before .reversed .result) (c .before .reversed .ensures .0))
 
--- src/increment.rt:79:28
 judge-requires : tie.Need-judge-requires
 judge-requires c κs = (opens (c .before .before .before .before .before .before), c .before .take .ensures .0)
 
 enum-told-2 : tie.Need-enum-told-2
 enum-told-2 c = search needs
 
--- src/increment.rt:80:9
 enum-told-3 : tie.Need-enum-told-3
 enum-told-3 c = search needs
 
--- src/increment.rt:80:9
 refused-requires-3 : tie.Need-refused-requires-3
 refused-requires-3 c κs = search needs
 
--- src/increment.rt:80:9
 same-length-3 : tie.Need-same-length-3
 same-length-3 c = search needs
 
--- src/increment.rt:80:9
 returns-3 : tie.Need-returns-3
-returns-3 c = let ws = c .before .before .before .before .before .before .before .before .before .before .before .before .before .before .before .before .args .words .now in let y = c .before .before .before .before .before .before .before .before .before .before .before .before .before .before .before .before .args .flow in let v = c .before .before .before .before .before .before .before .before .before .before .before .v .given .0 .0 in let o = opens (c .before .before .before .before .before .before .before .before .before .before) in let h = c .before .before .before .before .before .take .result in
+returns-3 c =
+    let ws = c .before .before .before .before .before .before .before .before .before .before .before .before .before .before .before .before .args .words .now in
+    let y = c .before .before .before .before .before .before .before .before .before .before .before .before .before .before .before .before .args .flow in
+    let v = c .before .before .before .before .before .before .before .before .before .before .before .v .given .0 .0 in
+    let o = opens (c .before .before .before .before .before .before .before .before .before .before) in
+    let h = c .before .before .before .before .before .take .result in
     said (c .refused3 .result) 9 0 ws (c .refused3 .ensures) ∙ increment-refuses ws y 9 (lit< tt) (meets-9 ws y (stepRefusals (parse ws) y) (o .good) (in-flows (c .before .before .before .before .before .before .before .before))
     (subst (λ b. T (not b)) (sym (said-not (soundIn ws v h) (partIn ws h) (sym (c .before .before .before .judge .ensures) ∙ c .before .enum-told3 .given .1)) ∙ found (c .before .before .before .before .before)) tt))
 
--- src/increment.rt:83:9
 refused-requires-4 : tie.Need-refused-requires-4
 refused-requires-4 c κs = search needs
 
--- src/increment.rt:83:9
 same-length-4 : tie.Need-same-length-4
 same-length-4 c = search needs
 
--- src/increment.rt:83:9
 returns-4 : tie.Need-returns-4
-returns-4 c = let ws = c .before .before .before .before .before .before .before .before .before .before .before .before .before .before .before .before .before .before .args .words .now in let y = c .before .before .before .before .before .before .before .before .before .before .before .before .before .before .before .before .before .before .args .flow in let v = c .before .before .before .before .before .before .before .before .before .before .before .before .before .v .given .0 .0 in let e = open-header ws v (opens (c .before .before .before .before .before .before .before .before .before .before .before .before)) in
+returns-4 c =
+    let ws = c .before .before .before .before .before .before .before .before .before .before .before .before .before .before .before .before .before .before .args .words .now in
+    let y = c .before .before .before .before .before .before .before .before .before .before .before .before .before .before .before .before .before .before .args .flow in
+    let v = c .before .before .before .before .before .before .before .before .before .before .before .before .before .v .given .0 .0 in
+    let e = open-header ws v (opens (c .before .before .before .before .before .before .before .before .before .before .before .before)) in
     said (c .refused4 .result) 10 0 ws (c .refused4 .ensures) ∙ increment-refuses ws y 10 (lit< tt) (meets-10 ws y (clear (c .before .before .before)) (sym (ap (λ (h : Header). h .total) e) ∙ c .before .if2 .taken ∙ ap (λ (h : Header). h .limit) e))
 
--- src/increment.rt:85:17
 count-requires : tie.Need-count-requires
-count-requires c κs = let ws = c .before .before .before .before .before .before .before .before .before .before .before .before .before .before .before .before .before .before .args .words .now in let y = c .before .before .before .before .before .before .before .before .before .before .before .before .before .before .before .before .before .before .args .flow in let v = c .before .before .before .before .before .before .before .before .before .before .before .before .before .v .given .0 .0 in let o = opens (c .before .before .before .before .before .before .before .before .before .before .before .before) in let s = c .before .before .before .before .before .before .before .before .before .reversed in let k = c .before .before .before .before .before .before .before .take in
+count-requires c κs =
+    let ws = c .before .before .before .before .before .before .before .before .before .before .before .before .before .before .before .before .before .before .args .words .now in
+    let y = c .before .before .before .before .before .before .before .before .before .before .before .before .before .before .before .before .before .before .args .flow in
+    let v = c .before .before .before .before .before .before .before .before .before .before .before .before .before .v .given .0 .0 in
+    let o = opens (c .before .before .before .before .before .before .before .before .before .before .before .before) in
+    let s = c .before .before .before .before .before .before .before .before .before .reversed in
+    let k = c .before .before .before .before .before .before .before .take in
     (o, k .ensures .0, number-of ws v o (s .result / 64) (k .result) (k .ensures .0) (k .ensures .1) (subst (λ i. T (soundAt (parse ws) i)) (sym (bucket-of ws v o y (s .result) (s .ensures .0))) (sound (c .before .before .before))), mod-lt (s .result) (lit< tt))
 
--- src/increment.rt:85:17
 add-count : tie.Need-add-count
 add-count c = omega (arith, fits c, count-end-most (c .before .before .before .before .before .before .before .before .before .before .before .before .before .before .before .before .before .before .before .args .words .now) (c .before .before .before .before .before .before .before .before .before .before .before .before .before .before .v .given .0 .0) (opens (c .before .before .before .before .before .before .before .before .before .before .before .before .before)))
 
--- src/increment.rt:86:49
 add-step : tie.Need-add-step
-add-step c = let l = open-limits (c .before .before .before .before .before .before .before .before .before .before .before .before .before .before .before .before .before .before .before .before .before .args .words .now) (c .before .before .before .before .before .before .before .before .before .before .before .before .before .before .before .before .v .given .0 .0) (opens (c .before .before .before .before .before .before .before .before .before .before .before .before .before .before .before)) in omega (arith, l .within, l .limit-high, count-end-most (c .before .before .before .before .before .before .before .before .before .before .before .before .before .before .before .before .before .before .before .before .before .args .words .now) (c .before .before .before .before .before .before .before .before .before .before .before .before .before .before .before .before .v .given .0 .0) (opens (c .before .before .before .before .before .before .before .before .before .before .before .before .before .before .before)))
+add-step c =
+    let l = open-limits (c .before .before .before .before .before .before .before .before .before .before .before .before .before .before .before .before .before .before .before .before .before .args .words .now) (c .before .before .before .before .before .before .before .before .before .before .before .before .before .before .before .before .v .given .0 .0) (opens (c .before .before .before .before .before .before .before .before .before .before .before .before .before .before .before)) in
+    omega (arith, l .within, l .limit-high, count-end-most (c .before .before .before .before .before .before .before .before .before .before .before .before .before .before .before .before .before .before .before .before .before .args .words .now) (c .before .before .before .before .before .before .before .before .before .before .before .before .before .before .before .before .v .given .0 .0) (opens (c .before .before .before .before .before .before .before .before .before .before .before .before .before .before .before)))
 
--- src/increment.rt:86:5
 step-requires : tie.Need-step-requires
-step-requires c κs = let ws = c .before .before .before .before .before .before .before .before .before .before .before .before .before .before .before .before .before .before .before .before .before .args .words .now in let y = c .before .before .before .before .before .before .before .before .before .before .before .before .before .before .before .before .before .before .before .before .before .args .flow in let v = c .before .before .before .before .before .before .before .before .before .before .before .before .before .before .before .before .v .given .0 .0 in let o = opens (c .before .before .before .before .before .before .before .before .before .before .before .before .before .before .before) in let s = c .before .before .before .before .before .before .before .before .before .before .before .before .reversed in let k = c .before .before .before .before .before .before .before .before .before .before .take in
+step-requires c κs =
+    let ws = c .before .before .before .before .before .before .before .before .before .before .before .before .before .before .before .before .before .before .before .before .before .args .words .now in
+    let y = c .before .before .before .before .before .before .before .before .before .before .before .before .before .before .before .before .before .before .before .before .before .args .flow in
+    let v = c .before .before .before .before .before .before .before .before .before .before .before .before .before .before .before .before .v .given .0 .0 in
+    let o = opens (c .before .before .before .before .before .before .before .before .before .before .before .before .before .before .before) in
+    let s = c .before .before .before .before .before .before .before .before .before .before .before .before .reversed in
+    let k = c .before .before .before .before .before .before .before .before .before .before .take in
     record {
       header = o;
       shape = k .ensures .0;
@@ -190,13 +191,17 @@ step-requires c κs = let ws = c .before .before .before .before .before .before
       fits = fits (c .before .before);
     }
 
--- src/increment.rt:68:1
 same-length-5 : tie.Need-same-length-5
 same-length-5 c = search needs
 
--- src/increment.rt:68:1
 returns-5 : tie.Need-returns-5
-returns-5 c = let ws = c .before .before .before .before .before .before .before .before .before .before .before .before .before .before .before .before .before .before .before .before .before .before .before .before .args .words .now in let y = c .before .before .before .before .before .before .before .before .before .before .before .before .before .before .before .before .before .before .before .before .before .before .before .before .args .flow in let v = c .before .before .before .before .before .before .before .before .before .before .before .before .before .before .before .before .before .before .before .v .given .0 .0 in let o = opens (c .before .before .before .before .before .before .before .before .before .before .before .before .before .before .before .before .before .before) in let s = c .before .before .before .before .before .before .before .before .before .before .before .before .before .before .before .reversed in let e = open-header ws v o in
+returns-5 c =
+    let ws = c .before .before .before .before .before .before .before .before .before .before .before .before .before .before .before .before .before .before .before .before .before .before .before .before .args .words .now in
+    let y = c .before .before .before .before .before .before .before .before .before .before .before .before .before .before .before .before .before .before .before .before .before .before .before .before .args .flow in
+    let v = c .before .before .before .before .before .before .before .before .before .before .before .before .before .before .before .before .before .before .before .v .given .0 .0 in
+    let o = opens (c .before .before .before .before .before .before .before .before .before .before .before .before .before .before .before .before .before .before) in
+    let s = c .before .before .before .before .before .before .before .before .before .before .before .before .before .before .before .reversed in
+    let e = open-header ws v o in
     c .before .before .step .ensures
     ∙ ap₂ (λ i a. stepIn ws i a (c .before .before .before .before .before .count .result + 1) (v .total + 1)) (bucket-of ws v o y (s .result) (s .ensures .0)) (place-of ws v o y (s .result) (s .ensures .0))
     ∙ ap₂ (λ n t. stepIn ws (bucketOf (parse ws .header) y) (Rattle.model.specs.Walls.placeOf (parse ws .header) y) (n + 1) (t + 1)) (counted (c .before .before .before .before .before)) (ap (λ (h : Header). h .total) e)

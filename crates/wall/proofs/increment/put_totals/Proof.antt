@@ -1,37 +1,29 @@
 use borrow.Author.Needs.{needs}
 use native.Mathlib.Omega.{arith}
 use mathlib.Core.Path.{_≡_, ap}
-use Prim.Native.Nat.{ℕ, _+_, _*_}
+use Prim.Native.Nat.{_+_, _*_}
 use lib.ListN.{set}
 use Rattle.model.specs.Packed.{joinFields}
 use Rattle.model.specs.Walls.{fullFields}
 use mathlib.Core.List.{[], _∷_}
 use Rattle.wall.proofs.increment.put_totals.Statement.{statement}
 use Rattle.wall.proofs.increment.put_totals.Tie as tie
-use Rattle.wall.proofs.increment.put_totals.Reads as reads
-use Rattle.wall.proofs.increment.put_totals.Lts as lts
 
--- src/increment.rt:27:5
 slice-write-words : tie.Need-slice-write-words
 slice-write-words c = search needs
 
--- src/increment.rt:28:25
 mul-words : tie.Need-mul-words
 mul-words c = search needs
 
--- src/increment.rt:28:16
 add-words : tie.Need-add-words
 add-words c = search needs
 
--- src/increment.rt:28:5
 slice-write-words-2 : tie.Need-slice-write-words-2
 slice-write-words-2 c = search needs
 
--- src/increment.rt:23:1
 same-length : tie.Need-same-length
 same-length c = search needs
 
--- src/increment.rt:23:1
 returns : tie.Need-returns
 returns c =
     let a = c .before .args in

@@ -1,27 +1,30 @@
 use borrow.Author.Needs.{needs}
 use native.Mathlib.Omega.{arith}
-use mathlib.Core.Path.{_≡_, ap}
+use mathlib.Core.Path.{ap}
 use Prim.Native.Nat.{ℕ, _+_, _*_, _≤_}
 use Rattle.wall.proofs.Opening.{size-most, buckets-most}
 use Rattle.wall.proofs.place.bucket_at.Statement.{statement}
 use Rattle.wall.proofs.place.bucket_at.Tie as tie
-use Rattle.wall.proofs.place.bucket_at.Reads as reads
-use Rattle.wall.proofs.place.bucket_at.Lts as lts
-use Rattle.wall.proofs.header.bucket_length.Reads as bucket-length-reads
 
--- src/place.rt:19:14
 bucket-length-requires : tie.Need-bucket-length-requires
 bucket-length-requires c κs = search needs
 
--- src/place.rt:19:10
 mul-result : tie.Need-mul-result
-mul-result c = let n = c .bucket-length in let v = c .before .args .v in let k = c .before .pre .0 in let m : c .before .args .i ≤ 65536 = omega (arith, c .before .pre .1, buckets-most v k) in omega (arith, size-most (c .before .args .i) (n .result) 0 m (n .ensures .1) (search needs))
+mul-result c =
+    let n = c .bucket-length in
+    let v = c .before .args .v in
+    let k = c .before .pre .0 in
+    let m : c .before .args .i ≤ 65536 = omega (arith, c .before .pre .1, buckets-most v k) in
+    omega (arith, size-most (c .before .args .i) (n .result) 0 m (n .ensures .1) (search needs))
 
--- src/place.rt:19:6
 add-result : tie.Need-add-result
-add-result c = let n = c .bucket-length in let v = c .before .args .v in let k = c .before .pre .0 in let m : c .before .args .i ≤ 65536 = omega (arith, c .before .pre .1, buckets-most v k) in omega (arith, size-most (c .before .args .i) (n .result) 0 m (n .ensures .1) (search needs))
+add-result c =
+    let n = c .bucket-length in
+    let v = c .before .args .v in
+    let k = c .before .pre .0 in
+    let m : c .before .args .i ≤ 65536 = omega (arith, c .before .pre .1, buckets-most v k) in
+    omega (arith, size-most (c .before .args .i) (n .result) 0 m (n .ensures .1) (search needs))
 
--- src/place.rt:15:1
 returns : tie.Need-returns
 returns c = let i = c .before .args .i in ap (λ (l : ℕ). 4 + i * l) (c .bucket-length .ensures .0)
 

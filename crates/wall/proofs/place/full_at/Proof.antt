@@ -1,42 +1,42 @@
 use borrow.Author.Needs.{needs}
 use native.Mathlib.Omega.{arith}
-use mathlib.Core.Path.{_≡_, ap₂}
+use mathlib.Core.Path.{ap₂}
 use Prim.Native.Nat.{ℕ, _+_, _*_}
 use Rattle.wall.proofs.Opening.{size-most}
 use Rattle.wall.proofs.place.full_at.Statement.{statement}
 use Rattle.wall.proofs.place.full_at.Tie as tie
-use Rattle.wall.proofs.place.full_at.Reads as reads
-use Rattle.wall.proofs.place.full_at.Lts as lts
-use Rattle.wall.proofs.header.bucket_length.Reads as bucket-length-reads
-use Rattle.wall.proofs.header.buckets.Reads as buckets-reads
 
--- src/place.rt:27:11
 buckets-requires : tie.Need-buckets-requires
 buckets-requires c κs = search needs
 
--- src/place.rt:27:32
 bucket-length-requires : tie.Need-bucket-length-requires
 bucket-length-requires c κs = search needs
 
--- src/place.rt:27:11
 mul-result : tie.Need-mul-result
-mul-result c = let b = c .before .buckets in let n = c .bucket-length in omega (arith, size-most (b .result) (n .result) 0 (b .ensures .1) (n .ensures .1) (search needs), c .before .before .pre .1)
+mul-result c =
+    let b = c .before .buckets in
+    let n = c .bucket-length in
+    omega (arith, size-most (b .result) (n .result) 0 (b .ensures .1) (n .ensures .1) (search needs), c .before .before .pre .1)
 
--- src/place.rt:27:59
 mul-result-2 : tie.Need-mul-result-2
 mul-result-2 c = search needs
 
--- src/place.rt:27:11
 add-result : tie.Need-add-result
-add-result c = let b = c .before .buckets in let n = c .bucket-length in omega (arith, size-most (b .result) (n .result) 0 (b .ensures .1) (n .ensures .1) (search needs), c .before .before .pre .1)
+add-result c =
+    let b = c .before .buckets in
+    let n = c .bucket-length in
+    omega (arith, size-most (b .result) (n .result) 0 (b .ensures .1) (n .ensures .1) (search needs), c .before .before .pre .1)
 
--- src/place.rt:27:6
 add-result-2 : tie.Need-add-result-2
-add-result-2 c = let b = c .before .buckets in let n = c .bucket-length in omega (arith, size-most (b .result) (n .result) 0 (b .ensures .1) (n .ensures .1) (search needs), c .before .before .pre .1)
+add-result-2 c =
+    let b = c .before .buckets in
+    let n = c .bucket-length in
+    omega (arith, size-most (b .result) (n .result) 0 (b .ensures .1) (n .ensures .1) (search needs), c .before .before .pre .1)
 
--- src/place.rt:23:1
 returns : tie.Need-returns
-returns c = let q = c .before .before .args .q in ap₂ (λ (h l : ℕ). 4 + (h * l + q * 65)) (c .before .buckets .ensures .0) (c .bucket-length .ensures .0)
+returns c =
+    let q = c .before .before .args .q in
+    ap₂ (λ (h l : ℕ). 4 + (h * l + q * 65)) (c .before .buckets .ensures .0) (c .bucket-length .ensures .0)
 
 pub full-at-spec : {M : Type 1} → statement M
 full-at-spec =
