@@ -59,15 +59,7 @@ fn step_plain(
 }
 
 // Place `at` of bucket i comes to the count. Judging the bucket shows what this asks.
-pub fn step(
-    words: &mut [u64],
-    v: Wall,
-    held: Held,
-    i: u64,
-    at: u64,
-    count: u64,
-    total: u64,
-) -> Answer
+fn step(words: &mut [u64], v: Wall, held: Held, i: u64, at: u64, count: u64, total: u64) -> Answer
     requires { ⌜ Ready (now words) v held i at count ⌝ }
     ensures { λ r. ⌜ outcomeOf r (now (words .exit)) ≡ stepIn (now (words .entry)) i at count total ⌝ }
 {

@@ -1,7 +1,7 @@
 pub mod check;
 pub mod fresh;
-pub mod header;
+mod header;
 pub mod increment;
-pub mod judge;
+mod judge;
 pub mod lookup;
-pub mod place;
+mod place;
