@@ -7,13 +7,19 @@ use native.Mathlib.Omega.{arith}
 use lib.Dec.{T, eqb, ltb, eqb→eq, ltb→lt, lt→ltb}
 use lib.ListN.{length}
 use Rattle.model.specs.Lists.{oneIf, choose}
-use Rattle.model.specs.Walls.{Header, flows, withTotals, readHeader, fresh}
+use Rattle.model.specs.Levels.{crowded}
+use Rattle.model.specs.Walls.{Header, flows, bucketsIn, withTotals, readHeader, parse, fresh}
+use Rattle.model.specs.Sound.{countsAt}
+use Rattle.model.specs.Need.{Needed}
 use Rattle.model.specs.Calls.{refuse, firstMet, asked}
 use Rattle.model.specs.Runs.{run, listed, crowdedBuckets}
 use Rattle.model.proofs.Headers.{Limits, good-of, eq-eqb}
+use Rattle.model.proofs.SoundWalls.{check-sound}
+use Rattle.model.proofs.Needed.{needed-crowded}
 use Rattle.model.proofs.Demand2.{Tabled}
 use Rattle.model.proofs.Demand3.{accepted-list, after-list, accepted-alike, ends-alike, next-after}
 use Rattle.model.proofs.Starts.{raised-iff, raised-words, closed-iff, closed-words, cleared, prefix}
+use Rattle.demands.specs.DemandTwo.{Accepted}
 use Rattle.demands.specs.DemandThree.{Flows, Rearranged, none, skip, swap, then, After, Next, Listed, DemandThree}
 
 -- ---- the number of the next increment
@@ -56,7 +62,9 @@ relisted xs ys r y = go r
 
 module _ (h : Header) (l : Limits (withTotals h 0 0)) (k : Tabled h) where
   afterwards : (ys : List ℕ) → Flows (flows h) ys → run (fresh h) ys .number ≡ 0 → After h ys (run (fresh h) ys .words)
-  afterwards ys b e = let a = after-list h l k ys b e in record { counts = a .counts; header = a .header; flags = a .flags; accepted = a .accepted }
+  afterwards ys b e =
+      let a = after-list h l k ys b e in
+      record { counts = a .counts; header = a .header; flags = a .flags; needed = a .needed; accepted = a .accepted }
 
   fresh-listed : Listed h (fresh h)
   fresh-listed = record {
@@ -67,6 +75,11 @@ module _ (h : Header) (l : Limits (withTotals h 0 0)) (k : Tabled h) where
     ends = λ xs ys bx by f e. let a = ends-alike h l k xs ys bx by f e in record { counts = a .counts; header = a .header; flags = a .flags };
     next = λ ys b e y m. subst (Next (length ys) (h .limit) (crowdedBuckets h (y ∷ ys)) (h .full)) (sym (next-after h l k ys b e y m)) (next-of (length ys) (h .limit) (crowdedBuckets h (y ∷ ys)) (h .full));
   }
+
+-- in any wall that the check accepts, a bucket that has need of the flag is crowded
+pub needed-is-crowded : (ws : List ℕ) → Accepted ws → (i : ℕ) → i < bucketsIn (parse ws .header) → Needed (parse ws) i
+    → T (crowded (parse ws .header .width) (parse ws .header .rows) (countsAt (parse ws) i))
+needed-is-crowded ws ok = needed-crowded (parse ws) (check-sound ws .0 ok .1)
 
 pub demand-three : DemandThree
 demand-three = record {

@@ -8,6 +8,7 @@ use Rattle.model.specs.Lists.{oneIf}
 use Rattle.model.specs.Levels.{crowded}
 use Rattle.model.specs.Walls.{Header, flows, bucketsIn, withTotals, readHeader, parse}
 use Rattle.model.specs.Sound.{flag, bucketAt, count}
+use Rattle.model.specs.Need.{Needed}
 use Rattle.model.specs.Calls.{asked, raise, close, increment}
 use Rattle.model.specs.Runs.{run, listed, slots, tallies, crowdedBuckets}
 use Rattle.demands.specs.DemandTwo.{Accepted}
@@ -25,11 +26,12 @@ pub data Rearranged : List ℕ → List ℕ → Type 0 where
   then : {xs ys zs : List ℕ} → Rearranged xs ys → Rearranged ys zs → Rearranged xs zs
 
 -- after an accepted list every flow's count is the number of its listings, the total is the length, U is the number of crowded buckets,
--- and a bucket is flagged exactly where its counts are crowded; the check accepts the wall
+-- and a bucket is flagged exactly where its counts are crowded, and never without need; the check accepts the wall
 pub record After (h : Header) (ys ws : List ℕ) : Type 0 where
   pub counts : (y : ℕ) → y < flows h → count (parse ws) y ≡ listed y ys
   pub header : parse ws .header ≡ withTotals h (length ys) (crowdedBuckets h ys)
   pub flags : (i : ℕ) → i < bucketsIn h → flag (bucketAt (parse ws) i) ≡ oneIf (crowded (h .width) (h .rows) (tallies i (slots h ys)))
+  pub needed : (i : ℕ) → i < bucketsIn h → flag (bucketAt (parse ws) i) ≡ 1 → Needed (parse ws) i
   pub accepted : Accepted ws
 
 -- the same counts, crowded buckets, total and U

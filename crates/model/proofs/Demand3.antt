@@ -24,6 +24,7 @@ use Rattle.model.proofs.Slots.{slot-lt, slot-slot, slot-inj}
 use Rattle.model.proofs.Tools.{by-eq}
 use Rattle.model.proofs.Headers.{Limits, bucket-lt}
 use Rattle.model.proofs.Sums.{tab-ext}
+use Rattle.model.specs.Need.{Needed}
 use Rattle.model.proofs.Steps.{eqb-false}
 use Rattle.model.proofs.Refusals.{first-clear, clear-first, first-skip}
 use Rattle.model.proofs.Demand2.{Accepted, follows, Tabled, tabled-parse, reparsed, accepted-flatten, own-clear}
@@ -159,6 +160,7 @@ pub record After (h : Header) (ys : List ℕ) (ws : List ℕ) : Type 0 where
   pub header : parse ws .header ≡ withTotals h (length ys) (crowdedBuckets h ys)
   pub counts : (y : ℕ) → y < flows h → count (parse ws) y ≡ listed y ys
   pub flags : (k : ℕ) → k < bucketsIn h → flag (bucketAt (parse ws) k) ≡ oneIf (crowded (h .width) (h .rows) (tallies k (slots h ys)))
+  pub needed : (k : ℕ) → k < bucketsIn h → flag (bucketAt (parse ws) k) ≡ 1 → Needed (parse ws) k
 
 -- two walls with the same counts, total, U and flags
 pub record Same (h : Header) (ws vs : List ℕ) : Type 0 where
@@ -176,6 +178,7 @@ module _ (h : Header) (l : Limits (withTotals h 0 0)) (k : Tabled h) where
         header = refl;
         counts = λ k _. fresh-counts h k;
         flags = λ k _. fresh-flag h k ∙ ap oneIf (sym (crowded-zero 64 (h .width) (h .rows)));
+        needed = λ k _ e. absurd (omega (arith, e, fresh-flag h k));
       } in
       subst (On h []) (fresh-flatten h) (record { accepted = accepted-flatten (freshWall h) s k; reached = subst (Reached h []) (sym (reparsed (freshWall h) s k)) r })
 
@@ -216,6 +219,7 @@ module _ (h : Header) (l : Limits (withTotals h 0 0)) (k : Tabled h) where
             ∙ getD-tab 64 (λ a. listed (x / 64 * 64 + a) (slots h ys)) (x % 64) (mod-lt x (lit< tt))
             ∙ ap (λ s. listed s (slots h ys)) (at-slot x) ∙ listed-slots (h .bits) y ys m b;
         flags = λ k m. r .flags k m ∙ ap (λ c. oneIf (crowded (h .width) (h .rows) c)) (rev-tally ys k);
+        needed = λ k m. r .needed k (subst (λ (g : Header). k < bucketsIn g) (sym (r .header)) m);
       }
     where
       at-slot : (x : ℕ) → x / 64 * 64 + x % 64 ≡ x

@@ -17,6 +17,7 @@ pub mod Parsing
 pub mod Sums
 pub mod Buckets
 pub mod SoundWalls
+pub mod Needed
 pub mod Steps
 pub mod Refusals
 pub mod Demand2

@@ -25,6 +25,7 @@ use Rattle.model.proofs.Headers.{bucket-lt}
 use Rattle.model.proofs.Sums.{tab-ext, tab-set, sum-change}
 use Rattle.model.proofs.Buckets.{counts-none, length-own, flag-le}
 use Rattle.model.proofs.SoundWalls.{SoundWall}
+use Rattle.model.proofs.Needed.{AllNeeded}
 use Rattle.model.proofs.Steps.{Stepped, eqb-false}
 use Rattle.model.proofs.Demand2.{Free, more-stepped}
 use Rattle.model.proofs.Used.{used-flags}
@@ -56,6 +57,7 @@ pub record Reached (h : Header) (xs : List ℕ) (v : Wall) : Type 0 where
   pub header : v .header ≡ withTotals h (length xs) (v .header .used)
   pub counts : (k : ℕ) → k < bucketsIn h → countsAt v k ≡ tallies k xs
   pub flags : (k : ℕ) → k < bucketsIn h → flag (bucketAt v k) ≡ oneIf (crowded (h .width) (h .rows) (tallies k xs))
+  pub needed : AllNeeded v
 
 own-counts : (v : Wall) (k : ℕ) → flag (bucketAt v k) ≡ 0 → ownAt v k ≡ countsAt v k
 unfolding countsAt
@@ -187,6 +189,7 @@ module _ (h : Header) (t u : ℕ) (bs : List Bucket) (fs : List Full) (xs : List
     flags = λ k l. by-eq k i
         (λ e. ap (λ n. flag (bucketAt (raisedBy v y d) n)) e ∙ s .flag-here ∙ flagged ∙ ap (λ n. oneIf (crowded (h .width) (h .rows) (tallies n zs))) (sym e))
         (λ z. s .flag-there k l z ∙ r .flags k l ∙ ap (λ l. oneIf (crowded (h .width) (h .rows) l)) (sym (again-there d k x xs z)));
+    needed = s .needed (r .needed);
   }
 
 -- ---- for any wall that was reached

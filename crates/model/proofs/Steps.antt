@@ -12,7 +12,7 @@ use lib.ListN.{length, getD, set, length-set, length-replicate, length-map}
 use lib.Seq.{getD-set-same, getD-set-other}
 use Rattle.model.specs.Lists.{sum, oneIf, byMark, choose}
 use Rattle.model.specs.Shapes.{Row, row, allRows}
-use Rattle.model.specs.Levels.{onward, Level, encode}
+use Rattle.model.specs.Levels.{onward, Level, encode, crowded}
 use Rattle.model.specs.Walls.{Bucket, Full, Wall, bucketsIn, countEnd, emptyFull, emptyBucket, withTotals, wall}
 use Rattle.model.specs.Sound.{flag, fullNumber, ownCounts, fullOf, bucketCounts, bucketAt, ownAt, fullFor, countsAt, holdsNumber, holders, allCounts, isEmptyFull}
 use Rattle.model.specs.Calls.{noRoom, step, holding, overflowed, moveIn}
@@ -23,8 +23,10 @@ use Rattle.model.proofs.Tools.{each-set, each-at, by-eq}
 use Rattle.model.proofs.Headers.{Fine, eq-eqb}
 use Rattle.model.proofs.Parsing.{Shaped, Lengths}
 use Rattle.model.proofs.Sums.{tab-ext, sum-set, sum-change, sum-two, sum-zero}
-use Rattle.model.proofs.Buckets.{SoundB, sound-more, sound-hold, sound-over, sound-moved, length-own, length-counts, counts-none, counts-moved, own-hold, hold-flag, over-flag, over-number, over-own, length-encode, moved-length}
+use Rattle.model.proofs.Buckets.{SoundB, sound-more, sound-hold, sound-over, sound-moved, length-own, length-counts, counts-none, counts-moved, own-hold, own-fits, hold-flag, over-flag, over-number, over-own, length-encode, moved-length, moved-here, full-here}
 use Rattle.model.proofs.SoundWalls.{SoundWall}
+use Rattle.model.specs.Need.{neededFrom, Needed}
+use Rattle.model.proofs.Needed.{AllNeeded, need-new, need-kept, moved-rises}
 
 -- what an increment by d of place a of bucket i makes of the wall x
 pub record Stepped (x : Wall) (i a d : ℕ) (y : Wall) : Type 0 where
@@ -34,6 +36,7 @@ pub record Stepped (x : Wall) (i a d : ℕ) (y : Wall) : Type 0 where
   pub there : (k : ℕ) → k < bucketsIn (x .header) → k ≢ i → countsAt y k ≡ countsAt x k
   pub flag-here : flag (bucketAt y i) ≡ byMark (flag (bucketAt x i)) (oneIf (noRoom x i a (getD (countsAt x i) a 0 + d))) (flag (bucketAt x i))
   pub flag-there : (k : ℕ) → k < bucketsIn (x .header) → k ≢ i → flag (bucketAt y k) ≡ flag (bucketAt x k)
+  pub needed : AllNeeded x → AllNeeded y
 
 pub length-countsAt : (x : Wall) (k : ℕ) → length (countsAt x k) ≡ 64
 unfolding countsAt
@@ -110,6 +113,7 @@ module _ (x : Wall) (s : SoundWall x) (i a d : ℕ) (li : i < bucketsIn (x .head
     counts : countsAt (next u bs fs) i ≡ set (countsAt x i) a (c + d)
     held : (q : ℕ) → q < u → holders (next u bs fs) q ≡ 1
     zeros : (q : ℕ) → q < x .header .full → u ≤ q → T (isEmptyFull (getD fs q emptyFull))
+    needed : (flag (bucketAt x i) ≡ 1 → Needed x i) → flag (bucketAt (next u bs fs) i) ≡ 1 → Needed (next u bs fs) i
     flagged : flag (bucketAt (next u bs fs) i) ≡ byMark (flag (bucketAt x i)) (oneIf (noRoom x i a (c + d))) (flag (bucketAt x i))
 
   -- their sum rises by d
@@ -165,6 +169,10 @@ module _ (x : Wall) (s : SoundWall x) (i a d : ℕ) (li : i < bucketsIn (x .head
       there = other;
       flag-here = l .flagged;
       flag-there = λ k h z. ap flag (l .buckets k h z);
+      needed = λ n k h e. by-eq k i
+          (λ z. subst (Needed (next u bs fs)) (sym z) (l .needed (n i li) (ap (λ j. flag (bucketAt (next u bs fs) j)) (sym z) ∙ e)))
+          (λ z. subst₂ (λ b f. neededFrom (x .header .width) (x .header .rows) (ownCounts (x .header .width) (x .header .rows) b) f) (sym (l .buckets k h z)) (sym (ap (fullOf fs) (l .buckets k h z) ∙ l .fulls k h z))
+          (n k h (ap flag (sym (l .buckets k h z)) ∙ e)));
     }
 
   -- ---- the three cases
@@ -265,6 +273,7 @@ module _ (x : Wall) (s : SoundWall x) (i a d : ℕ) (li : i < bucketsIn (x .head
         counts = held-counts;
         held = λ q h. held-holders q ∙ s .held q h;
         zeros = s .zeros;
+        needed = λ n z. absurd (omega (arith, z, ap flag (at-here kept) ∙ kept-flag));
         flagged = ap flag (at-here kept) ∙ kept-flag ∙ sym (no-flag (oneIf (noRoom x i a (c + d))) (flag b) ∙ ap oneIf t);
       }
 
@@ -320,6 +329,18 @@ module _ (x : Wall) (s : SoundWall x) (i a d : ℕ) (li : i < bucketsIn (x .head
       own-below : getD os a 0 < c + d
       own-below = omega (arith, ap (λ l. getD l a 0) counts-own)
 
+      own-room : T (not (crowded w rs os))
+      own-room = bucket-fits (row 64 w) rs os (le-of-eq (length-own w rs b)) .0 (own-fits w rs b (s .each i li .levels)) .0
+
+      no-room : T (crowded w rs vs)
+      unfolding noRoom
+      no-room = subst T (sym t) tt
+
+      over-needed : Needed (next (u + 1) bs fs) i
+      over-needed =
+          subst₂ (neededFrom w rs) (sym (ap (ownCounts w rs) (at-here over) ∙ over-own b u w rs)) (sym (ap (fullOf fs) (at-here over) ∙ over-full))
+          (need-new w rs os a (c + d) moved (length-own w rs b) la own-room no-room (moved-here emptyFull a (c + d) la len0) (full-here emptyFull a (c + d) la len0))
+
       over-local : Local (u + 1) bs fs
       over-local = record {
         shaped = record {
@@ -338,6 +359,7 @@ module _ (x : Wall) (s : SoundWall x) (i a d : ℕ) (li : i < bucketsIn (x .head
         counts = over-counts;
         held = over-held;
         zeros = λ q h k. subst (λ f. T (isEmptyFull f)) (sym (getD-set-other (x .fulls) u q moved emptyFull (λ z. omega arith))) (s .zeros q h (omega arith));
+        needed = λ _ _. over-needed;
         flagged = ap flag (at-here over) ∙ over-flag b u ∙ sym (no-flag (oneIf (noRoom x i a (c + d))) (flag b) ∙ ap oneIf t);
       }
 
@@ -386,6 +408,10 @@ module _ (x : Wall) (s : SoundWall x) (i a d : ℕ) (li : i < bucketsIn (x .head
     unfolding countsAt
     raised-sound = sound-moved w rs (x .header .total) (x .header .used) (x .header .total + d) b f (s .each i li) a (c + d) la len-f (omega arith) most-here
 
+    raised-needed : Needed x i → Needed (next (x .header .used) (x .buckets) fs′) i
+    unfolding countsAt
+    raised-needed z = subst (neededFrom w rs os) (sym raised-full) (need-kept w rs os f raised (moved-rises os f a (c + d) la len-f (omega arith)) z)
+
     raised-local : Local (x .header .used) (x .buckets) fs′
     raised-local = record {
       shaped = record {
@@ -402,6 +428,7 @@ module _ (x : Wall) (s : SoundWall x) (i a d : ℕ) (li : i < bucketsIn (x .head
       counts = raised-counts;
       held = λ q h. same-holders q ∙ s .held q h;
       zeros = λ q h k. subst (λ f. T (isEmptyFull f)) (sym (getD-set-other (x .fulls) n q raised emptyFull (λ z. omega (arith, n-lt)))) (s .zeros q h k);
+      needed = λ n z. raised-needed (n z);
       flagged = sym (ap (λ k. byMark k (oneIf (noRoom x i a (c + d))) (flag b)) e);
     }
 

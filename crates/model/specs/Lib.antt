@@ -6,5 +6,6 @@ pub mod Growing
 pub mod Slots
 pub mod Walls
 pub mod Sound
+pub mod Need
 pub mod Calls
 pub mod Runs
