@@ -1,10 +1,9 @@
 -- Where walls begin.
 use mathlib.Core.Path.{_≡_, refl, sym, ap, _∙_, subst}
 use mathlib.Core.List.{List, []}
-use Prim.Native.Nat.{ℕ, _^_, _<_}
-use lib.ListN.{length}
-use Rattle.model.specs.Walls.{Header, flows, readHeader, parse}
-use Rattle.model.specs.Calls.{Outcome, asked, raise, close, lookup}
+use Prim.Native.Nat.{ℕ, _<_}
+use Rattle.model.specs.Walls.{Header, flows, readHeader}
+use Rattle.model.specs.Calls.{asked, raise, close, lookup}
 use Rattle.model.specs.Runs.{run}
 use Rattle.model.proofs.Starts.{raised-words, closed-words}
 use Rattle.demands.specs.DemandThree.{Listed, After}

@@ -2,7 +2,7 @@
 -- that is met, and 0 where none is; and a number other than 0 comes with the value 0 and leaves the words as they were.
 use mathlib.Core.Logic.{_↔_}
 use mathlib.Core.Path.{_≡_}
-use mathlib.Core.List.{List, [], _∷_, _++_}
+use mathlib.Core.List.{List, _∷_, _++_}
 use Prim.Native.Nat.{ℕ, _<_}
 use mathlib.Core.Bool.{not}
 use lib.Dec.{T}

@@ -1,9 +1,9 @@
 -- What code that steps the levels in place has to show: the bucket with one more at one place, and its room.
 use mathlib.Core.Logic.{_↔_}
-use mathlib.Core.Path.{_≡_, refl, sym, ap, ap₂, _∙_, subst, subst₂}
-use mathlib.Core.Bool.{Bool, true, false, not}
-use mathlib.Core.List.{List, [], _∷_}
-use Prim.Native.Nat.{ℕ, zero, suc, _+_, _*_, _%_, _^_, _≤_, _<_}
+use mathlib.Core.Path.{_≡_, sym, ap, ap₂, _∙_, subst, subst₂}
+use mathlib.Core.Bool.{not}
+use mathlib.Core.List.{List}
+use Prim.Native.Nat.{ℕ, _+_, _*_, _^_, _<_}
 use native.Mathlib.Nat.{le-of-eq, one-mul, mul-one, mod-eq-of-lt, zero-add}
 use native.Mathlib.Omega.{arith}
 use lib.Dec.{T}

@@ -2,14 +2,13 @@
 use mathlib.Core.Logic.{_≢_}
 use mathlib.Core.Path.{_≡_, refl, sym, ap, ap₂, _∙_, subst, subst₂}
 use mathlib.Core.Bool.{Bool, true, false}
-use mathlib.Core.List.{List, [], _∷_, _++_, map}
+use mathlib.Core.List.{List, [], _∷_, map}
 use Prim.Native.Nat.{ℕ, zero, suc, _+_, _*_, _/_, _%_, _^_, _≤_, _<_, zero-le, suc-le-suc}
-use native.Mathlib.Nat.{le-trans, le-of-eq, le-of-suc-le-suc, not-suc-le-zero, zero-lt-suc, one-mul, zero-mul, mod-eq-of-lt, mod-lt, mul-comm, mul-zero, mul-suc, zero-add, zero-div, div-one, add-comm}
+use native.Mathlib.Nat.{le-trans, le-of-eq, le-of-suc-le-suc, not-suc-le-zero, zero-lt-suc, one-mul, zero-mul, mod-eq-of-lt, mod-lt, mul-comm, mul-zero, mul-suc, zero-div, div-one, add-comm}
 use native.Mathlib.Omega.{arith}
-use lib.Dec.{T, leb, ltb, eqb, leb→le, le→leb, ltb→lt, lt→ltb, eqb→eq, eqb-refl, lit<, lit≤}
+use lib.Dec.{T, leb, ltb, eqb, leb→le, le→leb, ltb→lt, lt→ltb, eqb→eq, eqb-refl, lit<}
 use lib.Pow.{pow-pos, pow-mono, shr-shr}
-use lib.Count.{ones}
-use lib.ListN.{length, getD, set, length-map, length-set, length-replicate, getD-replicate, replicate}
+use lib.ListN.{length, getD, set, length-map, length-set, length-replicate, getD-replicate}
 use lib.Seq.{ext-getD, getD-set-same, getD-set-other}
 use Rattle.model.specs.Lists.{sum, tabulate, every, byMark}
 use Rattle.model.specs.Packed.{pack, unpack, entry, cutFields, joinFields, bit, rank}
@@ -19,7 +18,7 @@ use Rattle.model.specs.Walls.{Bucket, Full, emptyFull}
 use Rattle.model.specs.Sound.{upperMarks, flag, spareBits, fullNumber, packedWord, pairLevels, levelsOf, ownCounts, movedAt, fullCount, bucketCounts, soundPlace, soundBucket}
 use Rattle.model.specs.Calls.{holding, overflowed, moveIn}
 use Rattle.model.proofs.Lists.{Below, least-of, length-tab, getD-tab}
-use Rattle.model.proofs.Packing.{pack-lt, pack-unpack, unpack-pack, below-unpack, length-unpack, ones-pack, rank-ones, rank-all}
+use Rattle.model.proofs.Packing.{pack-lt, pack-unpack, unpack-pack, below-unpack, length-unpack, rank-ones, rank-all}
 use Rattle.model.proofs.Ranks.{below-sign}
 use Rattle.model.proofs.Values.{below-parts, length-onward}
 use Rattle.model.proofs.Coding.{read, Fits, Sound, read-fits, encode-sound, sound-values, Values}

@@ -1,21 +1,21 @@
 -- Demand 2: on a wall that the check accepts, an accepted increment raises one count by one and no other, and lookup answers the count.
-use mathlib.Core.Logic.{_≢_, _↔_}
-use mathlib.Core.Path.{_≡_, refl, sym, ap, ap₂, _∙_, subst, subst₂}
+use mathlib.Core.Logic.{_≢_}
+use mathlib.Core.Path.{_≡_, refl, sym, ap, _∙_, subst, subst₂}
 use mathlib.Core.Bool.{Bool, true, false, not, _&&_}
-use mathlib.Core.List.{List, [], _∷_, _++_, map}
-use Prim.Native.Nat.{ℕ, zero, suc, _+_, _-_, _*_, _/_, _%_, _^_, _≤_, _<_}
-use native.Mathlib.Nat.{le-refl, le-trans, not-suc-le-zero, mod-lt}
+use mathlib.Core.List.{List, _++_, map}
+use Prim.Native.Nat.{ℕ, _+_, _*_, _/_, _%_, _≤_, _<_}
+use native.Mathlib.Nat.{le-refl, mod-lt}
 use native.Mathlib.Omega.{arith}
-use lib.Dec.{T, leb, ltb, eqb, leb→le, le→leb, nleb→lt, eqb→eq, eqb-refl, lit<, T-not, not-T}
+use lib.Dec.{T, eqb, nleb→lt, eqb-refl, lit<, T-not}
 use lib.Arith.{lt→nleb, lt-of-le-ne}
-use lib.ListN.{length, getD, set, length-append, length-map}
+use lib.ListN.{length, getD, length-append, length-map}
 use lib.Seq.{getD-set-same, getD-set-other}
 use Rattle.model.specs.Lists.{byMark, concat}
 use Rattle.model.specs.Shapes.{rowsOf}
 use Rattle.model.specs.Slots.{slot}
 use Rattle.model.specs.Walls.{Header, Wall, bucketsIn, flows, wallSize, bucketWords, fullWords, readHeader, good, flatten, parse, withTotals, bucketOf, placeOf}
 use Rattle.model.specs.Sound.{flag, bucketAt, countsAt, soundAt, count}
-use Rattle.model.specs.Calls.{Clear, Outcome, firstMet, noRoom, step, overflows, bucketRefusals, stepRefusals, raisedBy, lookup, increment, check}
+use Rattle.model.specs.Calls.{Clear, Outcome, firstMet, noRoom, overflows, bucketRefusals, stepRefusals, raisedBy, lookup, increment, check}
 use Rattle.model.proofs.Tests.{every-at}
 use Rattle.model.proofs.Slots.{slot-inj}
 use Rattle.model.proofs.Tools.{by-eq}

@@ -1,13 +1,12 @@
 -- Demand 3: a fresh wall and a list of flows. What is accepted, and what is held then, is said of the list alone, whatever its order.
-use mathlib.Core.Logic.{_≢_, _↔_}
+use mathlib.Core.Logic.{_↔_}
 use mathlib.Core.Path.{_≡_, refl, sym, ap, ap₂, _∙_, subst}
-use mathlib.Core.Bool.{Bool, true, false, not, _&&_}
-use mathlib.Core.List.{List, [], _∷_, _++_, map, reverseAux}
+use mathlib.Core.List.{List, [], _∷_, map, reverseAux}
 use Prim.Native.Nat.{ℕ, zero, suc, _+_, _*_, _/_, _%_, _^_, _≤_, _<_}
-use native.Mathlib.Nat.{le-refl, le-trans, le-of-eq, not-suc-le-zero, mod-lt}
+use native.Mathlib.Nat.{le-refl, mod-lt}
 use native.Mathlib.Decide.{decLt}
 use native.Mathlib.Omega.{arith}
-use lib.Dec.{T, ltb, eqb, eqb→eq, eqb-refl, lit<, nltb→le, not-T, T-not}
+use lib.Dec.{T, ltb, eqb, eqb-refl, lit<, nltb→le, T-not}
 use lib.Arith.{le→nltb}
 use lib.ListN.{length, getD, length-map}
 use Rattle.model.specs.Lists.{sum, oneIf, byMark}

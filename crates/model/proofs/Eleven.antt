@@ -1,14 +1,13 @@
 -- Number 11 never occurs, for any words and any flow number.
 use mathlib.Core.Logic.{_≢_}
-use mathlib.Core.Path.{_≡_, refl, sym, ap, _∙_, subst}
+use mathlib.Core.Path.{_≡_, sym, _∙_, subst}
 use mathlib.Core.Bool.{Bool, true, false, not, _&&_}
 use mathlib.Core.List.{List, [], _∷_, _++_}
-use Prim.Native.Nat.{ℕ, zero, suc, _+_, _^_, _≤_, _<_}
+use Prim.Native.Nat.{ℕ, _+_, _≤_, _<_}
 use native.Mathlib.Nat.{le-trans}
 use native.Mathlib.Omega.{arith}
-use lib.Dec.{T, leb, eqb, eqb→eq, eqb-refl, not-T, T-not}
+use lib.Dec.{T, eqb, eqb→eq, eqb-refl, not-T, T-not}
 use lib.Arith.{lt-of-le-ne}
-use lib.ListN.{getD}
 use Rattle.model.specs.Walls.{Wall, countEnd, good, flatten, parse, bucketOf, placeOf}
 use Rattle.model.specs.Sound.{bucketAt, fullFor, countsAt, soundAt, count}
 use Rattle.model.specs.Calls.{Clear, Refusal, refuse, firstMet, overflows, bucketRefusals, stepRefusals, raisedBy, increment}

@@ -1,7 +1,7 @@
 -- A word of fields of differing widths, the first lowest: the packed word of a bucket, and the words of a header.
 use mathlib.Core.Path.{_≡_, refl, sym}
 use mathlib.Core.List.{List, [], _∷_}
-use Prim.Native.Nat.{ℕ, zero, suc, _+_, _*_, _/_, _%_, _^_, _<_}
+use Prim.Native.Nat.{ℕ, zero, suc, _/_, _%_, _^_, _<_}
 use native.Mathlib.Nat.{zero-lt-suc, div-one, mod-one, mod-lt, add-comm}
 use lib.ListN.{take, getD}
 use lib.Arith.{digits-lt}

@@ -1,11 +1,9 @@
 -- The fresh wall of a header is sound and holds nothing.
 use mathlib.Core.Path.{_≡_, refl, sym, ap, ap₂, _∙_, subst, subst₂}
-use mathlib.Core.Bool.{Bool, true, false, not, _&&_}
 use mathlib.Core.List.{List, [], _∷_, _++_, map}
-use Prim.Native.Nat.{ℕ, zero, suc, _+_, _*_, _/_, _%_, _^_, _≤_, _<_, zero-le}
-use native.Mathlib.Nat.{zero-mul, zero-add, suc-mul, zero-div, zero-mod, mul-comm, add-comm, not-suc-le-zero}
-use native.Mathlib.Omega.{arith}
-use lib.Dec.{T, lit<, lit≤}
+use Prim.Native.Nat.{ℕ, zero, suc, _+_, _*_, _≤_, zero-le}
+use native.Mathlib.Nat.{zero-mul, suc-mul, zero-div, zero-mod, mul-comm, add-comm, not-suc-le-zero}
+use lib.Dec.{T, lit≤}
 use lib.Pow.{pow-pos}
 use lib.ListN.{length, getD, replicate, length-replicate, replicate-append-replicate}
 use Rattle.model.specs.Lists.{sum, tabulate, concat}

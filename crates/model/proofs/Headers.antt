@@ -1,17 +1,17 @@
 -- What a good header says, fact by fact.
-use mathlib.Core.Path.{_≡_, refl, sym, ap, ap₂, _∙_}
+use mathlib.Core.Path.{_≡_, ap, _∙_}
 use mathlib.Core.Bool.{Bool, _&&_}
-use mathlib.Core.List.{List, [], _∷_, _++_, map}
-use Prim.Native.Nat.{ℕ, zero, suc, _+_, _-_, _*_, _/_, _%_, _^_, _≤_, _<_}
-use native.Mathlib.Nat.{le-trans, div-lt-iff-lt-mul, mod-lt}
+use mathlib.Core.List.{List, [], _∷_, map}
+use Prim.Native.Nat.{ℕ, zero, suc, _-_, _*_, _/_, _^_, _≤_, _<_}
+use native.Mathlib.Nat.{div-lt-iff-lt-mul}
 use native.Mathlib.Omega.{arith}
-use lib.Dec.{T, leb, ltb, eqb, leb→le, le→leb, ltb→lt, lt→ltb, eqb→eq, eqb-refl, lit<, lit≤}
-use lib.Pow.{pow-add, pow-pos}
-use lib.ListN.{length, getD}
+use lib.Dec.{T, leb, ltb, eqb, leb→le, le→leb, ltb→lt, lt→ltb, eqb→eq, eqb-refl, lit<}
+use lib.Pow.{pow-add}
+use lib.ListN.{length}
 use Rattle.model.specs.Lists.{sum}
 use Rattle.model.specs.Shapes.{Row, rowsOf, knownShape, markWidths, validRow, falling, validRows}
 use Rattle.model.specs.Slots.{slot, knownBits}
-use Rattle.model.specs.Walls.{Header, letters, headField, wordAt, readHeader, limits, good, goodTests, wallSize, bucketsIn, countEnd, limitFits, fullFits}
+use Rattle.model.specs.Walls.{Header, letters, headField, readHeader, limits, good, goodTests, wallSize, bucketsIn, countEnd, limitFits, fullFits}
 use Rattle.model.proofs.Growth.{Wide}
 use Rattle.model.proofs.Slots.{slot-lt}
 use Rattle.model.proofs.Tools.{AllT, all-tests, tests-all, and-tests, tests-and}

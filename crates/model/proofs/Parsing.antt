@@ -1,12 +1,11 @@
 -- The words of a wall and the wall of the words are inverse.
 use mathlib.Core.Path.{_≡_, refl, sym, ap, ap₂, _∙_}
-use mathlib.Core.List.{List, [], _∷_, _++_, map, append-assoc, append-nil}
-use Prim.Native.Nat.{ℕ, zero, suc, _+_, _-_, _*_, _/_, _%_, _^_, _≤_, _<_}
-use native.Mathlib.Nat.{le-of-suc-le-suc, not-suc-le-zero, mod-eq-of-lt, mod-lt, add-comm}
+use mathlib.Core.List.{List, [], _∷_, _++_, map, append-nil}
+use Prim.Native.Nat.{ℕ, zero, suc, _+_, _*_, _/_, _%_, _^_, _≤_, _<_}
+use native.Mathlib.Nat.{le-of-suc-le-suc, not-suc-le-zero, mod-eq-of-lt}
 use native.Mathlib.Omega.{arith}
-use lib.Dec.{lit<, lit≤}
-use lib.Pow.{pow-pos, split}
-use lib.ListN.{length, getD, take, drop, set, length-append, length-take, length-drop, take-append-drop, length-map}
+use lib.Dec.{lit<}
+use lib.ListN.{length, getD, take, drop, set, length-append, length-drop, take-append-drop, length-map}
 use lib.Seq.{take-at, drop-at, drop-drop, length-take-le, take-all}
 use Rattle.model.specs.Lists.{splice, pieces, concat}
 use Rattle.model.specs.Packed.{joinFields}

@@ -1,13 +1,12 @@
 -- A wall that a list of increments has led to, said of the list: one more increment.
-use mathlib.Core.Logic.{_≢_, _↔_}
-use mathlib.Core.Path.{_≡_, refl, sym, ap, ap₂, _∙_, subst, subst₂}
-use mathlib.Core.Bool.{Bool, true, false, not, _&&_}
-use mathlib.Core.List.{List, [], _∷_, _++_, map}
-use Prim.Native.Nat.{ℕ, zero, suc, _+_, _-_, _*_, _/_, _%_, _^_, _≤_, _<_}
-use native.Mathlib.Nat.{le-trans, le-of-eq, not-suc-le-zero, mod-lt, zero-add, add-zero, add-suc, add-comm}
-use native.Mathlib.Numerals.{add-one}
+use mathlib.Core.Logic.{_≢_}
+use mathlib.Core.Path.{_≡_, refl, sym, ap, ap₂, _∙_, subst}
+use mathlib.Core.Bool.{Bool, true, false, _&&_}
+use mathlib.Core.List.{List, _∷_}
+use Prim.Native.Nat.{ℕ, zero, suc, _+_, _*_, _/_, _%_, _≤_, _<_}
+use native.Mathlib.Nat.{mod-lt, zero-add, add-zero, add-suc, add-comm}
 use native.Mathlib.Omega.{arith}
-use lib.Dec.{T, leb, ltb, eqb, eqb→eq, eqb-refl, lit<, lt→ltb, ltb→lt, T-not, not-T}
+use lib.Dec.{T, ltb, eqb, eqb-refl, lit<, lt→ltb}
 use lib.Arith.{le→nltb}
 use lib.ListN.{length, getD, set}
 use lib.Seq.{set-getD, set-set, getD-set-same}

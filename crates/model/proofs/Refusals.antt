@@ -1,15 +1,15 @@
 -- Numbers and refusals: the first that applies, and what a refusal leaves.
 use mathlib.Core.Logic.{_≢_}
-use mathlib.Core.Path.{_≡_, refl, sym, ap, _∙_, subst}
+use mathlib.Core.Path.{_≡_, refl, sym, _∙_, subst}
 use mathlib.Core.Bool.{Bool, true, false, not, _&&_}
 use mathlib.Core.List.{List, [], _∷_, _++_}
-use Prim.Native.Nat.{ℕ, zero, suc, _+_, _≤_, _<_}
+use Prim.Native.Nat.{ℕ, zero, suc, _+_, _<_}
 use native.Mathlib.Nat.{not-suc-le-zero, le-of-suc-le-suc}
 use native.Mathlib.Omega.{arith}
 use lib.Dec.{T}
 use Rattle.model.specs.Lists.{choose, every, lowest}
-use Rattle.model.specs.Walls.{fresh, flatten, parse, good, readHeader, bucketsIn}
-use Rattle.model.specs.Sound.{count, soundAt, soundRest}
+use Rattle.model.specs.Walls.{fresh, flatten, parse, good, readHeader}
+use Rattle.model.specs.Sound.{count}
 use Rattle.model.specs.Calls.{Clear, Outcome, Refusal, refuse, firstMet, outcome, reply, lookup, increment, close, raise, raiseRefusals, asked, check, bucketRefusals, stepRefusals, raisedBy}
 
 abbrev pub Named : List Refusal → Type 0

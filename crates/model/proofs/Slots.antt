@@ -1,7 +1,7 @@
 -- Each slot has exactly one flow: the slot rule is its own inverse below 2 ^ b.
-use mathlib.Core.Path.{_≡_, refl, sym, ap, ap₂, _∙_}
+use mathlib.Core.Path.{_≡_, sym, ap, ap₂, _∙_}
 use mathlib.Core.List.{List, [], _∷_, reverse, reverseAux, reverse-cons, reverse-reverse}
-use Prim.Native.Nat.{ℕ, zero, suc, _+_, _*_, _/_, _%_, _^_, _<_}
+use Prim.Native.Nat.{ℕ, suc, _+_, _*_, _/_, _%_, _^_, _<_}
 use native.Mathlib.Nat.{one-mul, zero-add, mod-eq-of-lt}
 use lib.ListN.{length, length-reverse}
 use Rattle.model.specs.Packed.{pack, unpack}

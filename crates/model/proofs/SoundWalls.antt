@@ -1,19 +1,17 @@
 -- A sound wall, fact by fact, and that the check says so.
-use mathlib.Core.Logic.{_≢_, _↔_}
-use mathlib.Core.Path.{_≡_, refl, sym, ap, ap₂, _∙_, subst}
+use mathlib.Core.Logic.{_↔_}
+use mathlib.Core.Path.{_≡_, refl}
 use mathlib.Core.Bool.{Bool, true, false}
 use mathlib.Core.List.{List, [], _∷_}
-use Prim.Native.Nat.{ℕ, zero, suc, _+_, _*_, _^_, _≤_, _<_}
-use native.Mathlib.Nat.{le-trans, not-suc-le-zero}
-use native.Mathlib.Omega.{arith}
-use lib.Dec.{T, leb, ltb, eqb, leb→le, le→leb, nleb→lt, eqb→eq, lit<}
-use lib.ListN.{length, getD}
-use Rattle.model.specs.Lists.{oneIf, every, byMark, choose, lowest}
+use Prim.Native.Nat.{ℕ, _≤_, _<_}
+use lib.Dec.{T, leb, eqb, leb→le, le→leb, eqb→eq, lit<}
+use lib.ListN.{getD}
+use Rattle.model.specs.Lists.{oneIf, every, byMark}
 use Rattle.model.specs.Walls.{Wall, bucketsIn, readHeader, good, parse, emptyFull}
 use Rattle.model.specs.Sound.{bucketAt, fullFor, soundAt, holders, allCounts, isEmptyFull, soundBuckets, soundRest}
 use Rattle.model.specs.Calls.{check, checkRefusals}
 use Rattle.model.proofs.Tests.{every-at, every-of}
-use Rattle.model.proofs.Tools.{AllT, all-tests, tests-all, not-not, to-not-not}
+use Rattle.model.proofs.Tools.{all-tests, tests-all, not-not, to-not-not}
 use Rattle.model.proofs.Refusals.{clear-first, first-clear}
 use Rattle.model.proofs.Headers.{Good, Limits, good-of, of-good, eq-eqb}
 use Rattle.model.proofs.Parsing.{Shaped, shaped-parse}

@@ -2,12 +2,11 @@
 use mathlib.Core.Logic.{_≢_}
 use mathlib.Core.Path.{_≡_, refl, sym, ap, ap₂, _∙_, subst, subst₂}
 use mathlib.Core.Bool.{Bool, true, false, not}
-use mathlib.Core.List.{List, [], _∷_, map}
-use Prim.Native.Nat.{ℕ, zero, suc, _+_, _*_, _^_, _≤_, _<_, zero-le}
-use native.Mathlib.Nat.{le-trans, le-of-eq, le-refl, not-suc-le-zero, zero-lt-suc, add-zero}
+use mathlib.Core.List.{List}
+use Prim.Native.Nat.{ℕ, zero, suc, _+_, _≤_, _<_}
+use native.Mathlib.Nat.{le-of-eq, le-refl, not-suc-le-zero, zero-lt-suc}
 use native.Mathlib.Omega.{arith}
-use lib.Dec.{T, leb, ltb, eqb, eqb→eq, ltb→lt, lit<, lit≤}
-use lib.Pow.{pow-mono}
+use lib.Dec.{T, ltb, eqb, eqb→eq, ltb→lt}
 use lib.ListN.{length, getD, set, length-set, length-replicate, length-map}
 use lib.Seq.{getD-set-same, getD-set-other}
 use Rattle.model.specs.Lists.{sum, oneIf, byMark, choose}

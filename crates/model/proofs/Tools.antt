@@ -2,11 +2,10 @@
 use mathlib.Core.Path.{_≡_, refl, sym, ap, ap₂, _∙_, subst}
 use mathlib.Core.Bool.{Bool, true, false, _&&_, not}
 use mathlib.Core.List.{List, [], _∷_, map}
-use Prim.Native.Nat.{ℕ, zero, suc, _+_, _≤_, _<_, suc-le-suc}
-use native.Mathlib.Nat.{le-of-suc-le-suc, not-suc-le-zero}
+use Prim.Native.Nat.{ℕ, zero, suc}
 use lib.Dec.{T, eqb, eqb→eq, eqb-refl}
 use mathlib.Core.Logic.{_≢_}
-use lib.ListN.{length, getD, set, replicate}
+use lib.ListN.{getD, set}
 use Rattle.model.specs.Lists.{all}
 
 abbrev pub AllT : List Bool → Type 0

@@ -1,9 +1,8 @@
 -- What an increment writes, as words replaced at offsets of the words lent.
 use mathlib.Core.Path.{_≡_, refl, sym, ap, ap₂, _∙_, subst}
-use mathlib.Core.Bool.{Bool, true, false}
-use mathlib.Core.List.{List, [], _∷_, _++_, map, append-assoc}
-use Prim.Native.Nat.{ℕ, zero, suc, _+_, _*_, _^_, _≤_, _<_}
-use native.Mathlib.Nat.{add-assoc}
+use mathlib.Core.Bool.{true, false}
+use mathlib.Core.List.{List, [], _∷_, _++_, append-assoc}
+use Prim.Native.Nat.{ℕ, suc, _+_, _*_, _^_, _<_}
 use lib.ListN.{length, getD, set, take, drop, length-set, length-replicate}
 use lib.Seq.{paste, take-length}
 use Rattle.model.specs.Lists.{splice, byMark, choose}

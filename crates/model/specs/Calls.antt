@@ -1,10 +1,10 @@
 -- Each call as a function of the words and its arguments: the number, the value, and the words after.
-use mathlib.Core.Bool.{Bool, true, false, _&&_, not}
+use mathlib.Core.Bool.{Bool, false, _&&_, not}
 use mathlib.Core.List.{List, [], _∷_, _++_, map}
-use Prim.Native.Nat.{ℕ, zero, suc, _+_, _*_, _/_, _^_}
+use Prim.Native.Nat.{ℕ, zero, suc, _+_, _*_, _^_}
 use lib.Dec.{T, leb, ltb, eqb}
 use lib.ListN.{length, set, take, drop}
-use Rattle.model.specs.Lists.{choose, byMark, every, lowest}
+use Rattle.model.specs.Lists.{choose, byMark, lowest}
 use Rattle.model.specs.Packed.{pack, unpack, joinFields}
 use Rattle.model.specs.Shapes.{Row, rowsOf, knownShape, widthAsked, allRows, counterBits, markWidths}
 use Rattle.model.specs.Slots.{slot, knownBits}

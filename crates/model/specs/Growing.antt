@@ -2,7 +2,7 @@
 use mathlib.Core.Bool.{Bool, true, false}
 use mathlib.Core.List.{List, [], _∷_}
 use Prim.Native.Nat.{ℕ, zero, suc, _+_, _^_}
-use lib.Dec.{leb, ltb}
+use lib.Dec.{ltb}
 use Rattle.model.specs.Packed.{entry, bit, rank, replaced, putIn}
 use Rattle.model.specs.Shapes.{Row}
 use Rattle.model.specs.Levels.{Level, level}

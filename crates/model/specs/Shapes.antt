@@ -1,7 +1,7 @@
 -- Shapes: the width w1 of the first level, and a row for each level from 2 on.
-use mathlib.Core.Bool.{Bool, true, false, _&&_}
+use mathlib.Core.Bool.{Bool, true, _&&_}
 use mathlib.Core.List.{List, [], _∷_, map}
-use Prim.Native.Nat.{ℕ, zero, suc, _+_, _*_}
+use Prim.Native.Nat.{ℕ, suc, _+_, _*_}
 use lib.Dec.{leb}
 use lib.ListN.{length, getD}
 use Rattle.model.specs.Lists.{sum, all, byMark}

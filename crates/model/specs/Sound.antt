@@ -1,14 +1,14 @@
 -- What a bucket and a wall hold, and when they are sound.
-use mathlib.Core.Bool.{Bool, true, false, _&&_}
+use mathlib.Core.Bool.{Bool, true, _&&_}
 use mathlib.Core.List.{List, [], _∷_}
-use Prim.Native.Nat.{ℕ, zero, suc, _+_, _/_, _%_, _^_}
+use Prim.Native.Nat.{ℕ, _/_, _%_, _^_}
 use lib.Dec.{leb, ltb, eqb}
 use lib.ListN.{getD}
 use Rattle.model.specs.Lists.{oneIf, byMark, all, every, sum, tabulate}
 use Rattle.model.specs.Packed.{pack, bit, rank, joinFields, cutFields}
 use Rattle.model.specs.Shapes.{Row, allRows, markWidths}
 use Rattle.model.specs.Levels.{Level, level, readAt, soundLevels}
-use Rattle.model.specs.Walls.{Header, Bucket, Full, Wall, bucketsIn, bucketOf, placeOf, emptyBucket, emptyFull}
+use Rattle.model.specs.Walls.{Bucket, Full, Wall, bucketsIn, bucketOf, placeOf, emptyBucket, emptyFull}
 
 -- ---- the packed word: 40 bits of marks, the overflow flag, 7 spare bits, the full-size number
 
