@@ -7,6 +7,7 @@ use native.Mathlib.Numerals.{add-one}
 use native.Mathlib.Omega.{arith}
 use Rattle.model.specs.Lists.{sum, tabulate}
 use Rattle.model.specs.Levels.{sign}
+use Rattle.model.proofs.Ranks.{sign-lt}
 use Rattle.model.proofs.Sums.{sum-change}
 
 -- ---- sums of a rule
@@ -32,24 +33,20 @@ sign-le : (n : ℕ) → sign n ≤ n
 sign-le zero = zero-le
 sign-le (suc n) = suc-le-suc zero-le
 
-sign-most : (n : ℕ) → sign n ≤ 1
-sign-most zero = zero-le
-sign-most (suc n) = suc-le-suc zero-le
-
 signs-le : (u : ℕ) (s : ℕ → ℕ) → sum (tabulate u (λ q. sign (s q))) ≤ sum (tabulate u s)
 signs-le zero s = zero-le
 signs-le (suc u) s = omega (arith, sign-le (s 0), signs-le u (λ q. s (suc q)))
 
 signs-most : (u : ℕ) (s : ℕ → ℕ) → sum (tabulate u (λ q. sign (s q))) ≤ u
 signs-most zero s = zero-le
-signs-most (suc u) s = omega (arith, sign-most (s 0), signs-most u (λ q. s (suc q)))
+signs-most (suc u) s = omega (arith, sign-lt (s 0), signs-most u (λ q. s (suc q)))
 
 -- no second holder, and as many as numbers: each has one
 pub each-one : (u : ℕ) (s : ℕ → ℕ) → sum (tabulate u s) ≤ sum (tabulate u (λ q. sign (s q))) → u ≤ sum (tabulate u s) → (q : ℕ) → q < u → s q ≡ 1
 each-one zero s a b q h = absurd (not-suc-le-zero h)
 each-one (suc u) s a b q h =
     let f0 = sign-le (s 0) in
-    let f1 = sign-most (s 0) in
+    let f1 = sign-lt (s 0) in
     let f2 = signs-le u (λ q. s (suc q)) in
     let f3 = signs-most u (λ q. s (suc q)) in
     let e : s 0 ≡ 1 = omega arith in

@@ -70,7 +70,7 @@ module _ (v : Wall) (i : ℕ) where
   unfolding countsAt
   most s = facts s .most
 
-  pub number-in : T (soundAt v i) → flag (bucketAt v i) ≡ 1 → fullNumber (bucketAt v i) < v .header .used
+  number-in : T (soundAt v i) → flag (bucketAt v i) ≡ 1 → fullNumber (bucketAt v i) < v .header .used
   number-in s e = number-lt (facts s) (omega arith)
 
   next : (q : ℕ) → holdersTo v (i + 1) q ≡ holdersTo v i q + holdsNumber q (bucketAt v i)

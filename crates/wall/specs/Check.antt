@@ -34,7 +34,7 @@ pub record Noted (before after : List ℕ) (n : ℕ) : Type 0 where
 
 -- ---- the first i buckets
 
--- how many of them hold the number q
+-- how many of them hold the number q; of all buckets this is the model's holders
 unfoldable pub holdersTo : Wall → ℕ → ℕ → ℕ
 holdersTo v i q = sum (tabulate i (λ k. holdsNumber q (bucketAt v k)))
 
@@ -47,7 +47,7 @@ pub record Passed (v : Wall) (i : ℕ) (t : Tally) : Type 0 where
   pub sound : (k : ℕ) → k < i → T (soundAt v k)
   pub counts : t .sum ≡ sum (tabulate i (λ k. sum (countsAt v k)))
   pub flags : t .flagged ≡ sum (tabulate (v .header .used) (holdersTo v i))
-  -- each number that is held was held first by one of them
+  -- each number held has one first holder; the others came again
   pub firsts : t .again + sum (tabulate (v .header .used) (λ q. sign (holdersTo v i q))) ≡ t .flagged
   pub few : t .flagged ≤ i
 

@@ -1,0 +1,19 @@
+/*
+ * The measured calls over a built case, and what is printed of them.
+ */
+#ifndef MEASURE_H
+#define MEASURE_H
+
+/* The calls of one kind, or of all four, by the three stores; a line for each says how many units they make. */
+void run_calls(const char *kind, const char *path);
+
+/* Nanoseconds as ratios to the flat array, a line for each of the other stores: the median repetitions, all in this run. */
+void print_ratios(const char *path);
+
+/* The words of the wall, and bits per counter: of the whole wall, and of its buckets alone. */
+void print_bits(const char *path);
+
+/* A line for each call: the most bytes of stack over the case's calls, beyond the return address, of the proved store and of the plain one. */
+void print_stack(const char *path);
+
+#endif

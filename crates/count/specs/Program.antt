@@ -1,0 +1,13 @@
+-- The program as a function of the bytes that it reads.
+use mathlib.Core.List.{List}
+use Prim.Native.Nat.{ℕ}
+use lib.ListN.{replicate}
+use Rattle.model.specs.Calls.{raise}
+use Rattle.lines.specs.Transcript.{transcript}
+
+-- 74 zeroed words raised as shape 3, w1 1, b 6, M 100, J 1
+unfoldable pub raised : List ℕ
+raised = raise 3 1 6 100 1 (replicate 74 0) .words
+
+unfoldable pub program : List ℕ → List ℕ
+program input = transcript input raised

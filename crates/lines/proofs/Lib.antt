@@ -1,0 +1,6 @@
+pub mod Decimals
+pub mod Found
+pub mod Texts
+pub mod Turns
+pub mod Kept
+pub mod Size

@@ -1,0 +1,35 @@
+-- Texts written one after another, where there is room for all of them.
+use mathlib.Core.Path.{_≡_, ap₂, _∙_}
+use mathlib.Core.List.{List, _++_}
+use Prim.Native.Nat.{ℕ}
+use native.Mathlib.Omega.{arith}
+use lib.ListN.{length, length-append}
+use Rattle.model.specs.Lists.{splice}
+use Rattle.bucket.proofs.Splices.{splice-on, length-splice}
+use Rattle.lines.specs.Writing.{Room, Wrote}
+
+pub same-length : {o s p : List ℕ} {at n : ℕ} → Room o at s → Wrote o at s p n → length p ≡ length o
+same-length {o} {s} {at = at} h w = rw (w .bytes) (length-splice o at s h)
+
+module _ (o : List ℕ) (at : ℕ) (s t : List ℕ) (h : Room o at (s ++ t)) where
+  pub room-first : Room o at s
+  room-first = omega (arith, simp length-append at h)
+
+  pub room-next : {p : List ℕ} {n : ℕ} → Wrote o at s p n → Room p n t
+  room-next w = omega (arith, simp length-append at h, w .ends, same-length room-first w)
+
+  pub and-then : {p q : List ℕ} {n m : ℕ} → Wrote o at s p n → Wrote p n t q m → Wrote o at (s ++ t) q m
+  and-then v w = record {
+    bytes = w .bytes ∙ ap₂ (λ x k. splice x k t) (v .bytes) (v .ends) ∙ splice-on o at (omega arith) s t;
+    ends = rw (length-append s t) (omega (arith, v .ends, w .ends));
+  }
+
+module _ (o : List ℕ) (at : ℕ) (s t u : List ℕ) (h : Room o at (s ++ (t ++ u))) where
+  pub room-second : {p : List ℕ} {n : ℕ} → Wrote o at s p n → Room p n t
+  room-second {p} {n} w = room-first p n t u (room-next o at s (t ++ u) h w)
+
+  pub room-third : {p q : List ℕ} {n m : ℕ} → Wrote o at s p n → Wrote p n t q m → Room q m u
+  room-third {p} {n = n} v w = room-next p n t u (room-next o at s (t ++ u) h v) w
+
+  pub all-three : {p q r : List ℕ} {n m k : ℕ} → Wrote o at s p n → Wrote p n t q m → Wrote q m u r k → Wrote o at (s ++ (t ++ u)) r k
+  all-three {p} {n = n} v w x = and-then o at s (t ++ u) h v (and-then p n t u (room-next o at s (t ++ u) h v) w x)
