@@ -1,0 +1,212 @@
+//! What a run met: a reader sees that it reaches what it is to test, and a run that does not fails.
+
+use crate::store::{self, Answer, Finding, PLACES};
+use crate::walls::Plan;
+use crate::Call;
+use std::collections::BTreeMap;
+
+const CALLS: [&str; 8] = ["raise", "lookup", "increment", "check", "close", "slot", "limits", "image"];
+
+/// The numbers that the document's table lets each call give. 11 is left out: the bucket's counts add up to at most the total, so 10 or 9 comes before it.
+const GIVEN: [&[usize]; 8] = [&[0, 1, 2, 3, 4, 5, 6], &[0, 7, 8, 9], &[0, 7, 8, 9, 10, 12], &[0, 7, 9, 13], &[0, 7], &[0, 3, 8], &[0, 1, 2], &[0, 6]];
+
+const BAD_HEADER: [&str; 13] =
+    ["fewer than 4 words", "mark", "version", "shape", "width 0", "width", "b", "M", "J", "length", "total over M", "U over J", "spare bits of word 3"];
+
+/// What is unsound about a bucket, and about a wall of sound buckets.
+const UNSOUND: [&str; 16] = [
+    "more ones than entries",
+    "a mark above the used entries",
+    "bits above the used entries",
+    "a last part of 0",
+    "spare packed bits",
+    "a number without the flag",
+    "a number not below U",
+    "the flag and no place moved",
+    "an unmoved place not 0",
+    "a moved count not above the bucket's own",
+    "counts over the total",
+    "counts below the total",
+    "all counts over the total",
+    "a number held twice",
+    "a number held by none",
+    "a full-size bucket from U up not 0",
+];
+
+/// What an increment does; the first three are told apart by level.
+const STEPS: [&str; 6] = ["enters level", "overflows at level", "12 at level", "stays in its levels", "moves a place", "raises a moved count"];
+
+#[derive(Default)]
+pub struct Met {
+    numbers: [[u64; 14]; 8],
+    headers: BTreeMap<&'static str, u64>,
+    /// By reason and shape: walls checked for which it holds, and those for which nothing else does.
+    unsound: BTreeMap<(&'static str, u64), [u64; 2]>,
+    /// By shape from 3, step and level.
+    steps: [[[u64; 6]; 6]; 3],
+}
+
+fn plan_of(words: &[u64]) -> Plan {
+    let byte = |n: u32| words[0] >> (8 * n) & 0xff;
+    Plan::new(byte(5), byte(6), byte(7), words[3] as usize & 0xffff)
+}
+
+/// The header of a wall for a reader.
+pub fn describe(words: &[u64]) -> String {
+    if words.len() < 4 {
+        return "no header".to_string();
+    }
+    let byte = |n: u32| words[0] >> (8 * n) & 0xff;
+    let (j, u) = (words[3] & 0xffff, words[3] >> 16 & 0xffff);
+    format!("before the call: shape {}, w1 {}, b {}, M {}, total {}, J {j}, U {u}; words:", byte(5), byte(6), byte(7), words[1], words[2])
+}
+
+impl Met {
+    pub fn calls(&self) -> u64 {
+        self.numbers.iter().flatten().sum()
+    }
+
+    pub fn answer(&mut self, call: Call, answer: Answer) {
+        let index = match call {
+            Call::Raise { .. } => 0,
+            Call::Lookup { .. } => 1,
+            Call::Increment { .. } => 2,
+            Call::Check => 3,
+            Call::Close => 4,
+            Call::Slot { .. } => 5,
+            Call::Limits { .. } => 6,
+            Call::Image { .. } => 7,
+        };
+        self.numbers[index][answer.0 as usize] += 1;
+    }
+
+    pub fn finding(&mut self, words: &[u64], finding: &Finding) {
+        let reasons = match finding {
+            Finding::Sound => return,
+            Finding::BadHeader(reason) => {
+                *self.headers.entry(reason).or_default() += 1;
+                return;
+            }
+            Finding::Bucket(_, reasons) | Finding::Wall(reasons) => reasons,
+        };
+        let shape = words[0] >> 40 & 0xff;
+        let alone = reasons.iter().all(|reason| *reason == reasons[0]);
+        for (n, reason) in reasons.iter().enumerate() {
+            if !reasons[..n].contains(reason) {
+                let entry = self.unsound.entry((reason, shape)).or_default();
+                entry[0] += 1;
+                entry[1] += alone as u64;
+            }
+        }
+    }
+
+    /// An increment and its wall before and after.
+    pub fn step(&mut self, before: &[u64], after: &[u64], flow: u64, (number, value): Answer) {
+        if number != 0 && number != 12 {
+            return;
+        }
+        let plan = plan_of(before);
+        let slot = store::slot(plan.bits, flow).1 as usize;
+        let packed = plan.bucket_at(slot / PLACES) + plan.packed();
+        let flagged = |words: &[u64]| words[packed] >> 40 & 1 == 1;
+        let count = if number == 0 { value } else { store::lookup(before, flow).1 + 1 };
+        let level = (2..=plan.levels.count()).find(|d| plan.start(*d) == count);
+        let step = if number == 12 {
+            2
+        } else if flagged(before) {
+            let full = plan.full_at((before[packed] >> 48) as usize);
+            if before[full] == after[full] {
+                5
+            } else {
+                4
+            }
+        } else if flagged(after) {
+            1
+        } else if level.is_some() {
+            0
+        } else {
+            3
+        };
+        let level = if step < 3 { level.unwrap_or(0) } else { 0 };
+        self.steps[plan.shape as usize - 3][step][level] += 1;
+    }
+
+    pub fn print(&self) {
+        println!("\nanswers by number:");
+        print!("{:9} {:>9}", "", "calls");
+        (0..14).for_each(|number| print!(" {number:>8}"));
+        println!();
+        for (call, numbers) in CALLS.iter().zip(&self.numbers) {
+            print!("{call:9} {:>9}", numbers.iter().sum::<u64>());
+            numbers.iter().for_each(|count| if *count == 0 { print!(" {:>8}", "-") } else { print!(" {count:>8}") });
+            println!();
+        }
+        print!("{:9} {:>9}", "all", self.calls());
+        (0..14).for_each(|number| print!(" {:>8}", self.numbers.iter().map(|numbers| numbers[number]).sum::<u64>()));
+        println!("\n\nincrements, by shape 3, 4, 5:");
+        for (step, name) in STEPS.iter().enumerate() {
+            for level in 0..6 {
+                let counts: Vec<u64> = self.steps.iter().map(|steps| steps[step][level]).collect();
+                if counts.iter().any(|count| *count != 0) {
+                    let name = if step < 3 { format!("{name} {level}") } else { name.to_string() };
+                    println!("{name:42} {:>8} {:>8} {:>8}", counts[0], counts[1], counts[2]);
+                }
+            }
+        }
+        println!("\nwalls checked that are unsound for this reason, and for it alone, by shape 3, 4, 5:");
+        for reason in UNSOUND {
+            print!("{reason:42}");
+            for shape in 3..=5 {
+                let [met, alone] = self.unsound.get(&(reason, shape)).copied().unwrap_or_default();
+                print!(" {met:>8} {alone:>8}");
+            }
+            println!();
+        }
+        println!("\nwalls checked whose header is bad, by the first reason:");
+        for reason in BAD_HEADER {
+            println!("{reason:42} {:>8}", self.headers.get(reason).copied().unwrap_or(0));
+        }
+        println!();
+    }
+
+    /// Each number that a call may give was given by it and no other, each reason to be unsound was met alone in each shape, and so on.
+    pub fn covers(&self) -> bool {
+        let mut missing = Vec::new();
+        for (call, numbers) in self.numbers.iter().enumerate() {
+            for (number, count) in numbers.iter().enumerate() {
+                let given = GIVEN[call].contains(&number);
+                if given != (*count != 0) {
+                    missing.push(format!("{} gave {number} {count} times", CALLS[call]));
+                }
+            }
+        }
+        for shape in 3..=5 {
+            for level in 2..=shape as usize {
+                for step in 0..3 {
+                    if self.steps[shape as usize - 3][step][level] == 0 {
+                        missing.push(format!("shape {shape}: no increment {} {level}", STEPS[step]));
+                    }
+                }
+            }
+            for step in 3..6 {
+                if self.steps[shape as usize - 3][step][0] == 0 {
+                    missing.push(format!("shape {shape}: no increment {}", STEPS[step]));
+                }
+            }
+            for reason in UNSOUND {
+                if self.unsound.get(&(reason, shape)).is_none_or(|counts| counts[1] == 0) {
+                    missing.push(format!("shape {shape}: no wall is unsound alone for: {reason}"));
+                }
+            }
+        }
+        for reason in BAD_HEADER {
+            if !self.headers.contains_key(reason) {
+                missing.push(format!("no header is bad for: {reason}"));
+            }
+        }
+        for line in &missing {
+            println!("differential: not covered: {line}");
+        }
+        missing.is_empty()
+    }
+}

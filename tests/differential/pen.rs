@@ -1,0 +1,81 @@
+//! Memory between two unreadable pages: a slice stands right before the one or right after the other, so that a read or a write past that end crashes.
+
+use std::ffi::c_void;
+use std::sync::atomic::{AtomicU64, Ordering};
+
+extern "C" {
+    fn mmap(address: *mut c_void, length: usize, protection: i32, flags: i32, file: i32, offset: i64) -> *mut c_void;
+    fn mprotect(address: *mut c_void, length: usize, protection: i32) -> i32;
+    fn signal(number: i32, handler: usize) -> usize;
+}
+
+const NONE: i32 = 0;
+const READ: i32 = 1;
+const WRITE: i32 = 2;
+const PRIVATE_ANONYMOUS: i32 = 0x22;
+const PAGE: usize = 4096;
+
+pub struct Pen {
+    from: *mut u8,
+    size: usize,
+}
+
+impl Pen {
+    pub fn new(pages: usize) -> Pen {
+        let size = pages * PAGE;
+        unsafe {
+            let base = mmap(std::ptr::null_mut(), size + 2 * PAGE, NONE, PRIVATE_ANONYMOUS, -1, 0);
+            assert!(base as isize != -1, "mmap failed");
+            let from = (base as *mut u8).add(PAGE);
+            assert!(mprotect(from.cast(), size, READ | WRITE) == 0, "mprotect failed");
+            Pen { from, size }
+        }
+    }
+
+    /// `length` bytes, right before the unreadable page above or right after the one below.
+    pub fn bytes(&mut self, length: usize, at_end: bool) -> &mut [u8] {
+        assert!(length <= self.size);
+        unsafe { std::slice::from_raw_parts_mut(self.from.add(if at_end { self.size - length } else { 0 }), length) }
+    }
+
+    pub fn words(&mut self, length: usize, at_end: bool) -> &mut [u64] {
+        let from = self.bytes(8 * length, at_end).as_mut_ptr();
+        unsafe { std::slice::from_raw_parts_mut(from.cast(), length) }
+    }
+
+    /// Makes the memory readable only, or readable and writable again.
+    pub fn seal(&mut self, sealed: bool) {
+        let status = unsafe { mprotect(self.from.cast(), self.size, if sealed { READ } else { READ | WRITE }) };
+        assert!(status == 0, "mprotect failed");
+    }
+}
+
+static SEED: AtomicU64 = AtomicU64::new(0);
+static PART: AtomicU64 = AtomicU64::new(0);
+static CASE: AtomicU64 = AtomicU64::new(0);
+
+/// From here on a crash names this case.
+pub fn crashes_name(seed: u64, part: usize, case: u64) {
+    SEED.store(seed, Ordering::Relaxed);
+    PART.store(part as u64, Ordering::Relaxed);
+    CASE.store(case, Ordering::Relaxed);
+}
+
+/// Says what ended the run, and in which case.
+fn end(what: &str) -> ! {
+    let part = crate::PARTS[PART.load(Ordering::Relaxed) as usize].name;
+    println!("differential: {what}: seed {} part {part} case {}", SEED.load(Ordering::Relaxed), CASE.load(Ordering::Relaxed));
+    std::process::exit(1)
+}
+
+extern "C" fn crashed(_: i32) {
+    end("a read or write outside the slice")
+}
+
+/// Crashes (SIGBUS and SIGSEGV) and panics name their case.
+pub fn catch_crashes() {
+    for number in [7, 11] {
+        unsafe { signal(number, crashed as *const () as usize) };
+    }
+    std::panic::set_hook(Box::new(|panic| end(&panic.to_string())));
+}
