@@ -39,7 +39,7 @@ void write_case(const bench_case *made, const char *path);
 
 /*
  * The counts wanted of each flow. Half full: in each bucket half of the places are counted; of the entries of levels 2 and 3 half, rounded down, are
- * in use. The limit on the total leaves no room for half of levels 4 and 5: one entry of level 4 is in use in one bucket in 8, one of level 5 in one
+ * in use. Levels 4 and 5 are used less, since each entry there stands for thousands of increments: one of level 4 in one bucket in 8, one of level 5 in one
  * in 64. Flagged: the same, and one bucket in 16 has one counter more for level 2 than it has entries, so that 64 full-size buckets come into use.
  * Young: four places of each bucket are counted once. The total is less than level 1 of a bucket has room for, and stays so over the measured calls.
  */
