@@ -25,7 +25,7 @@ use Rattle.model.proofs.Parsing.{Lengths, bucket-at, getD-in}
 use Rattle.model.proofs.Sums.{sum-zero}
 use Rattle.model.proofs.Buckets.{SoundB, own-coded, length-own, counts-none, count-at, packed-goes}
 use Rattle.model.proofs.SoundWalls.{SoundWall}
-use Rattle.model.proofs.Steps.{length-countsAt, empty-lengths}
+use Rattle.model.proofs.OwnSteps.{length-countsAt, empty-lengths}
 use Rattle.model.proofs.Used.{used-flags}
 use Rattle.model.proofs.Bridge.{first-words}
 use Rattle.demands.specs.DemandTwo.{Words, Laid}

@@ -23,7 +23,8 @@ use Rattle.model.proofs.Pieces.{length-cat}
 use Rattle.model.proofs.Headers.{Good, Limits, of-good, bucket-lt}
 use Rattle.model.proofs.Parsing.{Shaped, Coded, coded-of, read-head, head-marked, parse-flatten, offset-fulls, sized-fulls}
 use Rattle.model.proofs.SoundWalls.{SoundWall, check-sound, of-sound}
-use Rattle.model.proofs.Steps.{Stepped, step-sound, length-countsAt}
+use Rattle.model.proofs.OwnSteps.{length-countsAt}
+use Rattle.model.proofs.Steps.{Stepped, step-sound}
 use Rattle.model.proofs.Refusals.{Named, first-clear, clear-first, first-skip, answer-no, answer-done}
 
 -- ---- the words of a sound wall are accepted

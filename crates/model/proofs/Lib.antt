@@ -18,6 +18,7 @@ pub mod Sums
 pub mod Buckets
 pub mod SoundWalls
 pub mod Needed
+pub mod OwnSteps
 pub mod Steps
 pub mod Refusals
 pub mod Demand2

@@ -6,25 +6,26 @@ use mathlib.Core.List.{List}
 use Prim.Native.Nat.{ℕ, zero, suc, _+_, _≤_, _<_}
 use native.Mathlib.Nat.{le-of-eq, le-refl, not-suc-le-zero, zero-lt-suc}
 use native.Mathlib.Omega.{arith}
-use lib.Dec.{T, ltb, eqb, eqb→eq, ltb→lt}
-use lib.ListN.{length, getD, set, length-set, length-replicate, length-map}
-use lib.Seq.{getD-set-same, getD-set-other}
+use lib.Dec.{T, eqb, eqb→eq}
+use lib.ListN.{length, getD, set, length-set, length-replicate}
+use lib.Seq.{getD-set-other}
 use Rattle.model.specs.Lists.{sum, oneIf, byMark, choose}
 use Rattle.model.specs.Shapes.{Row, row, allRows}
-use Rattle.model.specs.Levels.{onward, Level, encode, crowded}
-use Rattle.model.specs.Walls.{Bucket, Full, Wall, bucketsIn, countEnd, emptyFull, emptyBucket, withTotals, wall}
+use Rattle.model.specs.Levels.{crowded}
+use Rattle.model.specs.Walls.{Bucket, Full, Wall, bucketsIn, emptyFull, emptyBucket, withTotals, wall}
 use Rattle.model.specs.Sound.{flag, fullNumber, ownCounts, fullOf, bucketCounts, bucketAt, ownAt, fullFor, countsAt, holdsNumber, holders, allCounts, isEmptyFull}
 use Rattle.model.specs.Calls.{noRoom, step, holding, overflowed, moveIn}
-use Rattle.model.proofs.Packing.{length-unpack}
 use Rattle.model.proofs.Coding.{Fits}
-use Rattle.model.proofs.Crowding.{atLeast-sum, bucket-fits, T-true}
-use Rattle.model.proofs.Tools.{each-set, each-at, by-eq}
+use Rattle.model.proofs.Crowding.{bucket-fits, T-true}
+use Rattle.model.proofs.Tools.{by-eq}
 use Rattle.model.proofs.Headers.{Fine, eq-eqb}
-use Rattle.model.proofs.Parsing.{Shaped, Lengths}
+use Rattle.model.proofs.Parsing.{Shaped}
 use Rattle.model.proofs.Sums.{tab-ext, sum-set, sum-change, sum-two, sum-zero}
-use Rattle.model.proofs.Buckets.{SoundB, sound-more, sound-hold, sound-over, sound-moved, length-own, length-counts, counts-none, counts-moved, own-hold, own-fits, hold-flag, over-flag, over-number, over-own, length-encode, moved-length, moved-here, full-here}
+use Rattle.model.proofs.Buckets.{SoundB, sound-more, sound-hold, sound-over, sound-moved, length-own, own-fits, hold-flag, over-flag, over-number, over-own, moved-here, full-here}
 use Rattle.model.proofs.SoundWalls.{SoundWall}
 use Rattle.model.specs.Need.{neededFrom, Needed}
+use Rattle.model.proofs.OwnSteps.{length-countsAt, number-lt}
+use Rattle.model.proofs.OwnSteps as own
 use Rattle.model.proofs.Needed.{AllNeeded, need-new, need-kept, moved-rises}
 
 -- what an increment by d of place a of bucket i makes of the wall x
@@ -37,18 +38,7 @@ pub record Stepped (x : Wall) (i a d : ℕ) (y : Wall) : Type 0 where
   pub flag-there : (k : ℕ) → k < bucketsIn (x .header) → k ≢ i → flag (bucketAt y k) ≡ flag (bucketAt x k)
   pub needed : AllNeeded x → AllNeeded y
 
-pub length-countsAt : (x : Wall) (k : ℕ) → length (countsAt x k) ≡ 64
-unfolding countsAt
-length-countsAt x k = length-counts (ownAt x k) (fullFor x k)
-
 -- ---- flags and numbers
-
-pub number-lt : {w : ℕ} {rs : List Row} {t u : ℕ} {b : Bucket} {f : Full} → SoundB w rs t u b f → 0 < flag b → fullNumber b < u
-number-lt {u = u} {b = b} s h = go (flag b) h (s .number)
-  where
-    go : (m : ℕ) → 0 < m → T (byMark m (eqb (fullNumber b) 0) (ltb (fullNumber b) u)) → fullNumber b < u
-    go zero h t = absurd (not-suc-le-zero h)
-    go (suc m) h t = ltb→lt (fullNumber b) u t
 
 fullOf-set : (fs : List Full) (q : ℕ) (f : Full) (b : Bucket) → (0 < flag b → fullNumber b ≢ q) → fullOf (set fs q f) b ≡ fullOf fs b
 fullOf-set fs q f b z = go (flag b) z
@@ -77,17 +67,6 @@ holds-one q b h e = go (flag b) h
     go : (m : ℕ) → 0 < m → byMark m 0 (oneIf (eqb (fullNumber b) q)) ≡ 1
     go zero h = absurd (not-suc-le-zero h)
     go (suc m) h = ap oneIf (sym (T-true (eqb (fullNumber b) q) (eq-eqb e)))
-
-pub hold-lengths : (w : ℕ) (rs : List Row) (vs : List ℕ) → Lengths w (length rs) (holding w rs vs)
-unfolding holding encode
-hold-lengths w rs vs = record { first = length-unpack 64 w _; uppers = length-map (encode rs (onward w vs)) (λ (x : Level). x .cells) ∙ length-encode rs (onward w vs) }
-
-pub over-lengths : (w n : ℕ) (b : Bucket) (q : ℕ) → Lengths w n b → Lengths w n (overflowed b q)
-unfolding overflowed
-over-lengths w n b q l = record { first = l .first; uppers = l .uppers }
-
-pub empty-lengths : (w : ℕ) (rs : List Row) → Lengths w (length rs) (emptyBucket w rs)
-empty-lengths w rs = record { first = length-replicate w 0; uppers = length-replicate (length rs) 0 }
 
 pub length-moved : (f : Full) (a v : ℕ) → length (f .counts) ≡ 64 → length (moveIn f a v .counts) ≡ 64
 unfolding moveIn
@@ -191,32 +170,27 @@ module _ (x : Wall) (s : SoundWall x) (i a d : ℕ) (li : i < bucketsIn (x .head
   abbrev vs : List ℕ
   vs = set os a (c + d)
 
-  in-buckets : i < length (x .buckets)
-  in-buckets = rw (s .shaped .buckets-number) li
-
   at-here : (b′ : Bucket) → getD (set (x .buckets) i b′) i (emptyBucket w rs) ≡ b′
-  at-here b′ = getD-set-same (x .buckets) i b′ (emptyBucket w rs) in-buckets
+  at-here = own.at-here x (s .shaped) (s .limits) i a d li la (s .each i li) room
 
   at-other : (b′ : Bucket) (k : ℕ) → k ≢ i → getD (set (x .buckets) i b′) k (emptyBucket w rs) ≡ bucketAt x k
   at-other b′ k z = getD-set-other (x .buckets) i k b′ (emptyBucket w rs) z
 
   most-here : sum (set (countsAt x i) a (c + d)) ≤ x .header .total + d
-  unfolding countsAt
-  most-here = omega (arith, sum-here, s .each i li .most)
+  most-here = own.most-here x (s .shaped) (s .limits) i a d li la (s .each i li) room
 
   module _ (e : flag b ≡ 0) where
     none : fullFor x i ≡ emptyFull
-    none = ap (λ m. byMark m emptyFull (getD (x .fulls) (fullNumber b) emptyFull)) e
+    none = own.none x (s .shaped) (s .limits) i a d li la (s .each i li) room e
 
     counts-own : countsAt x i ≡ os
-    unfolding countsAt
-    counts-own = ap (bucketCounts os) none ∙ counts-none os (length-own w rs b)
+    counts-own = own.counts-own x (s .shaped) (s .limits) i a d li la (s .each i li) room e
 
     sum-vs : sum vs ≤ x .header .total + d
-    sum-vs = subst (λ l. sum (set l a (c + d)) ≤ x .header .total + d) counts-own most-here
+    sum-vs = own.sum-vs x (s .shaped) (s .limits) i a d li la (s .each i li) room e
 
     length-vs : length vs ≡ 64
-    length-vs = length-set os a (c + d) ∙ length-own w rs b
+    length-vs = own.length-vs x (s .shaped) (s .limits) i a d li la (s .each i li) room e
 
     no-flag : {A : Type 0} (p q : A) → byMark (flag b) p q ≡ p
     no-flag p q = ap (λ m. byMark m p q) e
@@ -226,8 +200,7 @@ module _ (x : Wall) (s : SoundWall x) (i a d : ℕ) (li : i < bucketsIn (x .head
 
     module _ (t : noRoom x i a (c + d) ≡ false) where
       fits-vs : Fits (allRows w rs) vs
-      unfolding noRoom
-      fits-vs = bucket-fits (row 64 w) rs vs (le-of-eq length-vs) .1 (subst (λ z. T (not z)) (sym t) tt, atLeast-sum (countEnd (x .header)) vs (omega (arith, sum-vs, s .limits .limit-high)))
+      fits-vs = own.fits-vs x (s .shaped) (s .limits) i a d li la (s .each i li) room e t
 
       abbrev kept : Bucket
       kept = holding w rs vs
@@ -241,12 +214,6 @@ module _ (x : Wall) (s : SoundWall x) (i a d : ℕ) (li : i < bucketsIn (x .head
       kept-none : fullOf (x .fulls) kept ≡ emptyFull
       kept-none = ap (λ m. byMark m emptyFull (getD (x .fulls) (fullNumber kept) emptyFull)) kept-flag
 
-      held-counts : countsAt (next (x .header .used) (set (x .buckets) i kept) (x .fulls)) i ≡ set (countsAt x i) a (c + d)
-      unfolding countsAt
-      held-counts =
-          ap (λ b. bucketCounts (ownCounts w rs b) (fullOf (x .fulls) b)) (at-here kept) ∙ ap (bucketCounts (ownCounts w rs kept)) kept-none
-          ∙ counts-none (ownCounts w rs kept) (length-own w rs kept) ∙ own-hold w rs fine vs fits-vs length-vs ∙ ap (λ l. set l a (c + d)) (sym counts-own)
-
       held-holders : (q : ℕ) → holders (next (x .header .used) (set (x .buckets) i kept) (x .fulls)) q ≡ holders x q
       unfolding holders
       held-holders q = ap sum (tab-ext (bucketsIn (x .header)) (λ k. holdsNumber q (getD (set (x .buckets) i kept) k (emptyBucket w rs))) (λ k. holdsNumber q (bucketAt x k)) (λ k h.
@@ -257,19 +224,14 @@ module _ (x : Wall) (s : SoundWall x) (i a d : ℕ) (li : i < bucketsIn (x .head
 
       held-local : Local (x .header .used) (set (x .buckets) i kept) (x .fulls)
       held-local = record {
-        shaped = record {
-          buckets-number = length-set (x .buckets) i kept ∙ s .shaped .buckets-number;
-          fulls-number = s .shaped .fulls-number;
-          buckets = each-set (Lengths w (length rs)) (x .buckets) i kept (s .shaped .buckets) (hold-lengths w rs vs);
-          fulls = s .shaped .fulls;
-        };
+        shaped = own.kept-held x (s .shaped) (s .limits) i a d li la (s .each i li) room e t .shaped;
         most = le-refl (x .header .used);
         spare = s .limits .spare-full;
         buckets = λ k h z. at-other kept k z;
         fulls = λ k h z. refl;
         sound = subst₂ (λ b f. SoundB w rs (x .header .total + d) (x .header .used) b f) (sym (at-here kept)) (sym (ap (fullOf (x .fulls)) (at-here kept) ∙ kept-none))
             (sound-hold w rs fine vs fits-vs length-vs (x .header .total + d) (x .header .used) sum-vs);
-        counts = held-counts;
+        counts = own.kept-held x (s .shaped) (s .limits) i a d li la (s .each i li) room e t .counts;
         held = λ q h. held-holders q ∙ s .held q h;
         zeros = s .zeros;
         needed = λ n z. absurd (omega (arith, z, ap flag (at-here kept) ∙ kept-flag));
@@ -296,16 +258,10 @@ module _ (x : Wall) (s : SoundWall x) (i a d : ℕ) (li : i < bucketsIn (x .head
       len0 = length-replicate {A = ℕ} 64 0
 
       over-full : fullOf fs over ≡ moved
-      over-full = ap₂ (λ m n. byMark m emptyFull (getD fs n emptyFull)) (over-flag b u) (over-number b u) ∙ getD-set-same (x .fulls) u moved emptyFull (rw (s .shaped .fulls-number) free)
+      over-full = own.over-full x (s .shaped) (s .limits) i a d li la (s .each i li) room e free
 
       others : (k : ℕ) → k < bucketsIn (x .header) → 0 < flag (bucketAt x k) → fullNumber (bucketAt x k) ≢ u
       others k h p z = omega (arith, number-lt (s .each k h) p)
-
-      over-counts : countsAt (next (u + 1) bs fs) i ≡ set (countsAt x i) a (c + d)
-      unfolding countsAt
-      over-counts =
-          ap (λ b. bucketCounts (ownCounts w rs b) (fullOf fs b)) (at-here over) ∙ ap₂ bucketCounts (over-own b u w rs) over-full
-          ∙ counts-moved emptyFull a (c + d) la len0 os ∙ ap (λ f. set (bucketCounts os f) a (c + d)) (sym none)
 
       number-over : (q : ℕ) → holders (next (u + 1) bs fs) q ≡ holders x q + holdsNumber q over
       unfolding holders
@@ -342,20 +298,14 @@ module _ (x : Wall) (s : SoundWall x) (i a d : ℕ) (li : i < bucketsIn (x .head
 
       over-local : Local (u + 1) bs fs
       over-local = record {
-        shaped = record {
-          buckets-number = length-set (x .buckets) i over ∙ s .shaped .buckets-number;
-          fulls-number = length-set (x .fulls) u moved ∙ s .shaped .fulls-number;
-          buckets = each-set (Lengths w (length rs)) (x .buckets) i over (s .shaped .buckets)
-              (over-lengths w (length rs) b u (each-at (Lengths w (length rs)) (x .buckets) i (emptyBucket w rs) (s .shaped .buckets) (empty-lengths w rs)));
-          fulls = each-set (λ (f : Full). length (f .counts) ≡ 64) (x .fulls) u moved (s .shaped .fulls) (moved-length emptyFull a (c + d) la len0);
-        };
+        shaped = own.kept-over x (s .shaped) (s .limits) i a d li la (s .each i li) room e free .shaped;
         most = omega arith;
         spare = omega arith;
         buckets = λ k h z. at-other over k z;
         fulls = λ k h z. fullOf-set (x .fulls) u moved (bucketAt x k) (others k h);
         sound = subst₂ (λ b f. SoundB w rs (x .header .total + d) (u + 1) b f) (sym (at-here over)) (sym (ap (fullOf fs) (at-here over) ∙ over-full))
             (sound-over w rs (x .header .total) u (x .header .total + d) b (subst (SoundB w rs (x .header .total) u b) none (s .each i li)) a (c + d) la own-below sum-vs);
-        counts = over-counts;
+        counts = own.kept-over x (s .shaped) (s .limits) i a d li la (s .each i li) room e free .counts;
         held = over-held;
         zeros = λ q h k. subst (λ f. T (isEmptyFull f)) (sym (getD-set-other (x .fulls) u q moved emptyFull (λ z. omega arith))) (s .zeros q h (omega arith));
         needed = λ _ _. over-needed;
@@ -376,14 +326,13 @@ module _ (x : Wall) (s : SoundWall x) (i a d : ℕ) (li : i < bucketsIn (x .head
     fs′ = set (x .fulls) n raised
 
     n-lt : n < x .header .used
-    n-lt = number-lt (s .each i li) (omega (arith, e))
+    n-lt = own.n-lt x (s .shaped) (s .limits) i a d li la (s .each i li) room m e
 
     len-f : length (f .counts) ≡ 64
-    len-f = subst (λ k. length (byMark k emptyFull (getD (x .fulls) n emptyFull) .counts) ≡ 64) (sym e)
-        (each-at (λ (f : Full). length (f .counts) ≡ 64) (x .fulls) n emptyFull (s .shaped .fulls) (length-replicate {A = ℕ} 64 0))
+    len-f = own.len-f x (s .shaped) (s .limits) i a d li la (s .each i li) room m e
 
     raised-full : fullOf fs′ b ≡ raised
-    raised-full = ap (λ k. byMark k emptyFull (getD fs′ n emptyFull)) e ∙ getD-set-same (x .fulls) n raised emptyFull (rw (s .shaped .fulls-number) (omega (arith, n-lt, s .limits .spare-full)))
+    raised-full = own.raised-full x (s .shaped) (s .limits) i a d li la (s .each i li) room m e
 
     apart : (k : ℕ) → k < bucketsIn (x .header) → k ≢ i → 0 < flag (bucketAt x k) → fullNumber (bucketAt x k) ≢ n
     unfolding holders
@@ -394,10 +343,6 @@ module _ (x : Wall) (s : SoundWall x) (i a d : ℕ) (li : i < bucketsIn (x .head
       holds-one n (bucketAt x k) p y,
       holds-one n b (omega (arith, e)) refl,
     )
-
-    raised-counts : countsAt (next (x .header .used) (x .buckets) fs′) i ≡ set (countsAt x i) a (c + d)
-    unfolding countsAt
-    raised-counts = ap (bucketCounts os) raised-full ∙ counts-moved f a (c + d) la len-f os
 
     same-holders : (q : ℕ) → holders (next (x .header .used) (x .buckets) fs′) q ≡ holders x q
     unfolding holders
@@ -413,18 +358,13 @@ module _ (x : Wall) (s : SoundWall x) (i a d : ℕ) (li : i < bucketsIn (x .head
 
     raised-local : Local (x .header .used) (x .buckets) fs′
     raised-local = record {
-      shaped = record {
-        buckets-number = s .shaped .buckets-number;
-        fulls-number = length-set (x .fulls) n raised ∙ s .shaped .fulls-number;
-        buckets = s .shaped .buckets;
-        fulls = each-set (λ (f : Full). length (f .counts) ≡ 64) (x .fulls) n raised (s .shaped .fulls) (moved-length f a (c + d) la len-f);
-      };
+      shaped = own.kept-raised x (s .shaped) (s .limits) i a d li la (s .each i li) room m e .shaped;
       most = le-refl (x .header .used);
       spare = s .limits .spare-full;
       buckets = λ k h z. refl;
       fulls = λ k h z. fullOf-set (x .fulls) n raised (bucketAt x k) (apart k h z);
       sound = subst (SoundB w rs (x .header .total + d) (x .header .used) b) (sym raised-full) raised-sound;
-      counts = raised-counts;
+      counts = own.kept-raised x (s .shaped) (s .limits) i a d li la (s .each i li) room m e .counts;
       held = λ q h. same-holders q ∙ s .held q h;
       zeros = λ q h k. subst (λ f. T (isEmptyFull f)) (sym (getD-set-other (x .fulls) n q raised emptyFull (λ z. omega (arith, n-lt)))) (s .zeros q h k);
       needed = λ n z. raised-needed (n z);

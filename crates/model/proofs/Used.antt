@@ -11,7 +11,7 @@ use Rattle.model.proofs.Order.{sum-tab-add, sum-tab-zero}
 use Rattle.model.proofs.Sums.{tab-ext}
 use Rattle.model.proofs.Buckets.{flag-le}
 use Rattle.model.proofs.SoundWalls.{SoundWall}
-use Rattle.model.proofs.Steps.{number-lt}
+use Rattle.model.proofs.OwnSteps.{number-lt}
 
 sum-swap : (m n : ℕ) (f : ℕ → ℕ → ℕ) → sum (tabulate m (λ q. sum (tabulate n (f q)))) ≡ sum (tabulate n (λ k. sum (tabulate m (λ q. f q k))))
 sum-swap zero n f = sym (sum-tab-zero n)

@@ -14,7 +14,8 @@ use Rattle.model.specs.Calls.{noRoom, step, holding, overflowed, moveIn}
 use Rattle.model.proofs.Tools.{each-set, each-at}
 use Rattle.model.proofs.Headers.{Good}
 use Rattle.model.proofs.Parsing.{Shaped, Lengths, shaped-parse, flatten-parse, flatten-bucket, flatten-full, offset-fulls}
-use Rattle.model.proofs.Steps.{hold-lengths, over-lengths, empty-lengths, length-moved}
+use Rattle.model.proofs.OwnSteps.{hold-lengths, over-lengths, empty-lengths}
+use Rattle.model.proofs.Steps.{length-moved}
 
 -- new totals are two words
 pub totals-words : (h : Header) (t u : ℕ) (bs : List Bucket) (fs : List Full) → flatten (wall (withTotals h t u) bs fs) ≡ set (set (flatten (wall h bs fs)) 2 t) 3 (joinFields fullFields (h .full ∷ u ∷ h .spare ∷ []))

@@ -17,7 +17,8 @@ use Rattle.model.specs.Sound.{bucketAt, bucketCounts, countsAt, flag, fullFor, 
 use Rattle.model.proofs.Sums.{sum-zero, tab-ext}
 use Rattle.model.proofs.Tools.{by-eq}
 use Rattle.model.proofs.Buckets.{SoundB, bucket-facts}
-use Rattle.model.proofs.Steps.{holds-none, holds-one, number-lt}
+use Rattle.model.proofs.OwnSteps.{number-lt}
+use Rattle.model.proofs.Steps.{holds-none, holds-one}
 use Rattle.layout.specs.declared.Wall as layout
 use Rattle.layout.specs.Shapes.{shapeOf}
 use Rattle.layout.specs.Views.{headerOf}
