@@ -79,13 +79,16 @@ static void play(pair *both, const uint64_t counts[FLOWS], generator *from)
     }
 }
 
-/* The measured calls themselves, on a wall that is then closed. */
-static void rehearse(pair *both, const bench_case *made)
+/* The measured calls themselves, on a wall that is then closed. A light wall has to stay one. */
+static void rehearse(pair *both, const bench_case *made, wall_kind kind)
 {
     for (unsigned call = 0; call < made->calls; call++)
         if (agree_increment(both, made->flows[call]) != WALL_DONE)
             abort();
     agree_words(both);
+    for (uint64_t flow = 0; kind == LIGHT && flow < FLOWS; flow++)
+        if (agree_lookup(both, flow) >> WIDTH != 0)
+            abort();
     if (agree_check(both) != WALL_DONE)
         abort();
     agree_close(both);
@@ -108,7 +111,7 @@ void build_case(unsigned shape, wall_kind kind, const char *path)
     draw_calls(&made, &from);
     write_case(&made, path);
     uint64_t increments = made.words[2], used = made.words[3] >> 16;
-    rehearse(&both, &made);
+    rehearse(&both, &made, kind);
     printf("- Shape %u, %s%s: %" PRIu64 " increments, ", shape, wall_names[kind], kind == HALF ? " full" : "", increments);
     printf("%" PRIu64 " full-size buckets in use: the same answers and the same words.\n", used);
 }
@@ -136,7 +139,8 @@ static void damage(pair *both, generator *from)
 
 static void agree_on_one(pair *both, generator *from)
 {
-    uint64_t shape = about(from, 3, 5), width = about(from, 0, 6), bits = about(from, 6, 7), full = about(from, 0, 2);
+    uint64_t shape = about(from, 3, 5), width = drawn(from) % 4 == 0 ? about(from, 8, 16) : about(from, 0, 6);
+    uint64_t bits = about(from, 6, 7), full = about(from, 0, 2);
     uint64_t words = 4 + (bits == 7 ? 2 : 1) * ((width == 0 ? 7 : width) + shape + 1) + 65 * full;
     both->length = words <= 1024 ? words : 74;
     agree_raise(both, shape, width, bits, about(from, 1, 4000), full);

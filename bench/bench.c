@@ -30,10 +30,8 @@ int main(int argc, char **argv)
         print_ratios(argv[2]);
     else if (argc == 3 && !strcmp(argv[1], "bits"))
         print_bits(argv[2]);
-    else if (argc == 3 && !strcmp(argv[1], "stack"))
-        print_stack(argv[2]);
     else {
-        fputs("usage: bench build SHAPE half|flagged|young FILE | agree | calls KIND FILE | time FILE | bits FILE | stack FILE\n", stderr);
+        fputs("usage: bench build SHAPE light|half|flagged|young FILE | agree | calls KIND FILE | time FILE | bits FILE\n", stderr);
         return 1;
     }
     return 0;

@@ -13,7 +13,4 @@ void print_ratios(const char *path);
 /* The words of the wall, and bits per counter: of the whole wall, and of its buckets alone. */
 void print_bits(const char *path);
 
-/* A line for each call: the most bytes of stack over the case's calls, beyond the return address, of the proved store and of the plain one. */
-void print_stack(const char *path);
-
 #endif

@@ -3,9 +3,10 @@
 
 #include <string.h>
 
-enum { HEAD_WORDS = 4, MAX_WIDTH = 16, DEFAULT_WIDTH = 7, MIN_BITS = 6, MAX_BITS = 22, MAX_FULL = 4096 };
+enum { HEAD_WORDS = 4, DEFAULT_WIDTH = 7, MIN_BITS = 6, MAX_BITS = 22, MAX_FULL = 4096 };
 
 #define HEAD_MARK 0x00014c5742u /* letters B, W, L and version 1 */
+#define HEAD_BITS 0xffffffffffu
 
 static wall_answer answer(uint64_t number, uint64_t value)
 {
@@ -37,9 +38,9 @@ static uint64_t length_of(uint64_t shape, uint64_t width, uint64_t bits, uint64_
     return HEAD_WORDS + ((uint64_t)1 << (bits - 6)) * (width + shape + 1) + FULL_WORDS * full;
 }
 
-static bool open_wall(const uint64_t *words, size_t length, plain_wall *wall)
+PLAIN_INLINE bool open_wall(const uint64_t *words, size_t length, plain_wall *wall)
 {
-    if (length < HEAD_WORDS || (words[0] & 0xffffffffff) != HEAD_MARK || words[3] >> 32)
+    if (length < HEAD_WORDS || (words[0] & HEAD_BITS) != HEAD_MARK || words[3] >> 32)
         return false;
     wall->shape = words[0] >> 40 & 0xff;
     wall->width = words[0] >> 48 & 0xff;
@@ -50,29 +51,34 @@ static bool open_wall(const uint64_t *words, size_t length, plain_wall *wall)
     wall->used = words[3] >> 16;
     if (!known_shape(wall->shape) || wall->width == 0 || wall->width > MAX_WIDTH || !known_bits(wall->bits))
         return false;
-    wall->buckets = (uint64_t)1 << (wall->bits - 6);
     wall->bucket_words = wall->width + wall->shape + 1;
+    wall->before_full = HEAD_WORDS + (wall->bucket_words << (wall->bits - MIN_BITS));
     return known_limit(wall->shape, wall->width, wall->limit) && known_full(wall->bits, wall->full) &&
-           length == length_of(wall->shape, wall->width, wall->bits, wall->full) && wall->total <= wall->limit && wall->used <= wall->full;
+           length == wall->before_full + FULL_WORDS * wall->full && wall->total <= wall->limit && wall->used <= wall->full;
 }
 
-static size_t bucket_start(const plain_wall *wall, uint64_t bucket)
+PLAIN_INLINE size_t bucket_start(const plain_wall *wall, uint64_t bucket)
 {
     return HEAD_WORDS + bucket * wall->bucket_words;
 }
 
-static size_t full_start(const plain_wall *wall, uint64_t number)
+PLAIN_INLINE size_t full_start(const plain_wall *wall, uint64_t number)
 {
-    return bucket_start(wall, wall->buckets) + number * FULL_WORDS;
+    return wall->before_full + number * FULL_WORDS;
 }
 
-uint64_t plain_slot(unsigned bits, uint64_t flow)
+PLAIN_INLINE uint64_t slot_of(unsigned bits, uint64_t flow)
 {
     uint32_t x = (uint32_t)flow;
     x = (x & 0x55555555) << 1 | (x >> 1 & 0x55555555);
     x = (x & 0x33333333) << 2 | (x >> 2 & 0x33333333);
     x = (x & 0x0f0f0f0f) << 4 | (x >> 4 & 0x0f0f0f0f);
     return __builtin_bswap32(x) >> (32 - bits);
+}
+
+uint64_t plain_slot(unsigned bits, uint64_t flow)
+{
+    return slot_of(bits, flow);
 }
 
 wall_answer plain_raise(uint64_t *words, size_t length, uint64_t shape, uint64_t width, uint64_t bits, uint64_t limit, uint64_t full)
@@ -98,18 +104,45 @@ wall_answer plain_raise(uint64_t *words, size_t length, uint64_t shape, uint64_t
     return answer(WALL_DONE, 0);
 }
 
-/* The refusals that lookup and increment share; else WALL_DONE, the wall, and the slot of the flow. */
-static uint64_t judge(const uint64_t *words, size_t length, uint64_t flow, plain_wall *wall, uint64_t *slot)
+/* What the 64 counts add up to, or PLAIN_UNSOUND. Where the sum is not asked for, level 1 is added up only if it could be over the total. */
+PLAIN_INLINE uint64_t sum_of(const plain_wall *wall, const uint64_t *words, const uint64_t *bucket, bool asked)
 {
-    uint64_t sum;
+    const uint64_t *marks = bucket + wall->width;
+    uint64_t sum = 0, most_low = ((uint64_t)PLACES << wall->width) - PLACES;
+    if (plain_goes_on(marks, wall->shape)) {
+        if (marks[wall->shape] >> FLAG_BIT)
+            return plain_flagged_sum(bucket, wall->shape, wall->width, words + wall->before_full, wall->used, wall->total);
+        sum = plain_upper_sum(marks, wall->shape);
+        if (sum == PLAIN_UNSOUND)
+            return PLAIN_UNSOUND;
+        sum <<= wall->width;
+    }
+    if (!asked && sum + most_low <= wall->total)
+        return sum;
+    sum += plain_first_sum(bucket, wall->width);
+    return sum <= wall->total ? sum : PLAIN_UNSOUND;
+}
+
+/* The refusals that lookup and increment share; else WALL_DONE, the wall, and the slot of the flow. */
+PLAIN_INLINE uint64_t judge(const uint64_t *words, size_t length, uint64_t flow, plain_wall *wall, uint64_t *slot)
+{
     if (!open_wall(words, length, wall))
         return WALL_BAD_HEADER;
     if (flow >> wall->bits)
         return WALL_NO_FLOW;
-    *slot = plain_slot(wall->bits, flow);
-    if (!plain_sound(wall, words + bucket_start(wall, *slot / PLACES), words + full_start(wall, 0), &sum))
-        return WALL_UNSOUND;
-    return WALL_DONE;
+    *slot = slot_of(wall->bits, flow);
+    return sum_of(wall, words, words + bucket_start(wall, *slot / PLACES), false) == PLAIN_UNSOUND ? WALL_UNSOUND : WALL_DONE;
+}
+
+/* The full-size bucket of a flagged bucket. */
+PLAIN_INLINE size_t full_of(const plain_wall *wall, const uint64_t *bucket)
+{
+    return full_start(wall, bucket[wall->width + wall->shape] >> NUMBER_BIT);
+}
+
+PLAIN_INLINE bool flagged(const plain_wall *wall, const uint64_t *bucket)
+{
+    return bucket[wall->width + wall->shape] >> FLAG_BIT & 1;
 }
 
 wall_answer plain_lookup(const uint64_t *words, size_t length, uint64_t flow)
@@ -120,25 +153,27 @@ wall_answer plain_lookup(const uint64_t *words, size_t length, uint64_t flow)
         return answer(number, 0);
     const uint64_t *bucket = words + bucket_start(&wall, slot / PLACES);
     unsigned place = slot % PLACES;
-    if (plain_flagged(&wall, bucket)) {
-        const uint64_t *full = words + full_start(&wall, plain_number(&wall, bucket));
+    if (flagged(&wall, bucket)) {
+        const uint64_t *full = words + full_of(&wall, bucket);
         if (full[0] >> place & 1)
             return answer(WALL_DONE, full[1 + place]);
     }
-    return answer(WALL_DONE, plain_own_count(&wall, bucket, place));
+    if (bucket[wall.width] >> place & 1)
+        return answer(WALL_DONE, plain_own_count(bucket, wall.shape, wall.width, place));
+    return answer(WALL_DONE, plain_first(bucket, wall.width, place));
 }
 
 /* One more at a place of a flagged bucket, which is moved then if it was not before; answers its count. */
-static uint64_t grow_full(const plain_wall *wall, const uint64_t *bucket, uint64_t *full, unsigned place)
+PLAIN_INLINE uint64_t grow_full(const plain_wall *wall, const uint64_t *bucket, uint64_t *full, unsigned place)
 {
     if (!(full[0] >> place & 1)) {
         full[0] |= (uint64_t)1 << place;
-        full[1 + place] = plain_own_count(wall, bucket, place);
+        full[1 + place] = plain_own_count(bucket, wall->shape, wall->width, place);
     }
     return ++full[1 + place];
 }
 
-static void overflow(const plain_wall *wall, uint64_t *words, uint64_t *bucket)
+PLAIN_INLINE void overflow(const plain_wall *wall, uint64_t *words, uint64_t *bucket)
 {
     memset(words + full_start(wall, wall->used), 0, FULL_WORDS * sizeof *words);
     bucket[wall->width + wall->shape] |= (uint64_t)1 << FLAG_BIT | wall->used << NUMBER_BIT;
@@ -155,56 +190,63 @@ wall_answer plain_increment(uint64_t *words, size_t length, uint64_t flow)
         return answer(WALL_AT_LIMIT, 0);
     uint64_t *bucket = words + bucket_start(&wall, slot / PLACES);
     unsigned place = slot % PLACES;
-    if (!plain_flagged(&wall, bucket)) {
-        if (plain_grow(&wall, bucket, place)) {
-            words[2]++;
-            return answer(WALL_DONE, plain_own_count(&wall, bucket, place));
+    if (!flagged(&wall, bucket)) {
+        uint64_t count = plain_first(bucket, wall.width, place);
+        bool carries = count == plain_ones_below(wall.width);
+        if (bucket[wall.width] >> place & 1)
+            count = plain_own_count(bucket, wall.shape, wall.width, place);
+        if (!carries)
+            plain_add_first(bucket, wall.width, place, 1);
+        if (!carries || plain_carry(bucket, wall.shape, wall.width, place)) {
+            words[2] = wall.total + 1;
+            return answer(WALL_DONE, count + 1);
         }
         if (wall.used == wall.full)
             return answer(WALL_NO_FULL, 0);
         overflow(&wall, words, bucket);
     }
-    words[2]++;
-    return answer(WALL_DONE, grow_full(&wall, bucket, words + full_start(&wall, plain_number(&wall, bucket)), place));
+    words[2] = wall.total + 1;
+    return answer(WALL_DONE, grow_full(&wall, bucket, words + full_of(&wall, bucket), place));
 }
 
+/* The first word is zero, and each is as the one before it. */
 static bool all_zero(const uint64_t *words, size_t count)
 {
-    for (size_t n = 0; n < count; n++)
-        if (words[n] != 0)
-            return false;
-    return true;
+    return count == 0 || (words[0] == 0 && memcmp(words, words + 1, (count - 1) * sizeof *words) == 0);
 }
 
-/* Among sound buckets, a number held twice shows in `held`; that none is missing then follows from how many are flagged. */
-static bool hold(const plain_wall *wall, const uint64_t *bucket, uint64_t held[], uint64_t *flagged)
+/* The full-size numbers met: among sound buckets one that is held twice shows; that none is missing then follows from how many are held. */
+typedef struct {
+    uint64_t held[MAX_FULL / 64], count;
+    bool twice;
+} numbers;
+
+static void hold(numbers *met, uint64_t number)
 {
-    if (!plain_flagged(wall, bucket))
-        return true;
-    uint64_t number = plain_number(wall, bucket), bit = (uint64_t)1 << number % 64;
-    if (held[number / 64] & bit)
-        return false;
-    held[number / 64] |= bit;
-    (*flagged)++;
-    return true;
+    uint64_t bit = (uint64_t)1 << number % 64;
+    met->twice |= (met->held[number / 64] & bit) != 0;
+    met->held[number / 64] |= bit;
+    met->count++;
 }
 
 wall_answer plain_check(const uint64_t *words, size_t length)
 {
     plain_wall wall;
-    uint64_t held[MAX_FULL / 64] = {0}, flagged = 0, counted = 0, sum;
-    bool apart = true;
+    numbers met = {{0}, 0, false};
+    uint64_t counted = 0;
     if (!open_wall(words, length, &wall))
         return answer(WALL_BAD_HEADER, 0);
-    for (uint64_t n = 0; n < wall.buckets; n++) {
-        const uint64_t *bucket = words + bucket_start(&wall, n);
-        if (!plain_sound(&wall, bucket, words + full_start(&wall, 0), &sum))
-            return answer(WALL_UNSOUND, n);
+    const uint64_t *first = words + HEAD_WORDS, *end = words + wall.before_full;
+    for (const uint64_t *bucket = first; bucket != end; bucket += wall.bucket_words) {
+        uint64_t sum = sum_of(&wall, words, bucket, true);
+        if (sum == PLAIN_UNSOUND)
+            return answer(WALL_UNSOUND, (uint64_t)(bucket - first) / wall.bucket_words);
         counted += sum;
-        apart &= hold(&wall, bucket, held, &flagged);
+        if (flagged(&wall, bucket))
+            hold(&met, bucket[wall.width + wall.shape] >> NUMBER_BIT);
     }
     bool rest = all_zero(words + full_start(&wall, wall.used), (wall.full - wall.used) * FULL_WORDS);
-    if (counted != wall.total || !apart || flagged != wall.used || !rest)
+    if (counted != wall.total || met.twice || met.count != wall.used || !rest)
         return answer(WALL_UNSOUND_WALL, 0);
     return answer(WALL_DONE, 0);
 }

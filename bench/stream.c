@@ -20,7 +20,7 @@ uint64_t drawn(generator *from)
     return from->state = x;
 }
 
-const char *const wall_names[WALLS] = {"half", "flagged", "young"};
+const char *const wall_names[WALLS] = {"light", "half", "flagged", "young"};
 
 wall_kind wall_named(const char *name)
 {
@@ -98,7 +98,7 @@ void write_case(const bench_case *made, const char *path)
 /* How many counters of the bucket are to use a level. */
 static unsigned users(unsigned shape, unsigned level, unsigned bucket, wall_kind kind)
 {
-    unsigned entries = plain_entries[shape - 3][level - 2];
+    unsigned entries = plain_levels[shape - 3][level - 2].entries;
     if (level == 2 && kind == FLAGGED && bucket % 16 == 0)
         return entries + 1;
     if (level <= 3)
@@ -113,13 +113,15 @@ static unsigned users(unsigned shape, unsigned level, unsigned bucket, wall_kind
 static uint64_t wanted_count(unsigned shape, unsigned bucket, wall_kind kind, unsigned turn, generator *from)
 {
     unsigned begin = 0, next = WIDTH;
+    if (kind == LIGHT)
+        return 1 + drawn(from) % LIGHT_MOST;
     if (kind == YOUNG)
         return turn < 4;
     if (turn >= 32)
         return 0;
     for (unsigned level = 2; level <= shape && turn < users(shape, level, bucket, kind); level++) {
         begin = next;
-        next += plain_widths[shape - 3][level - 2];
+        next += plain_levels[shape - 3][level - 2].width;
     }
     if (begin == 0)
         return 1 + drawn(from) % (1 + drawn(from) % ((1 << WIDTH) - 1));

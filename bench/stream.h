@@ -8,7 +8,7 @@
 #include <stddef.h>
 #include <stdint.h>
 
-enum { WIDTH = 7, BITS = 16, FULL = 128, FLOWS = 1 << BITS, BUCKETS = FLOWS / 64, CALLS = 20000, YOUNG_CALLS = 4000 };
+enum { WIDTH = 7, BITS = 16, FULL = 128, FLOWS = 1 << BITS, BUCKETS = FLOWS / 64, CALLS = 20000, YOUNG_CALLS = 4000, LIGHT_MOST = 100 };
 
 /* xorshift64 (shifts 13, 7, 17). */
 typedef struct {
@@ -24,7 +24,7 @@ typedef struct {
     uint64_t *words, *flows, *counts;
 } bench_case;
 
-typedef enum { HALF, FLAGGED, YOUNG, WALLS } wall_kind;
+typedef enum { LIGHT, HALF, FLAGGED, YOUNG, WALLS } wall_kind;
 
 extern const char *const wall_names[WALLS];
 
@@ -38,10 +38,12 @@ bench_case read_case(const char *path);
 void write_case(const bench_case *made, const char *path);
 
 /*
- * The counts wanted of each flow. Half full: in each bucket half of the places are counted; of the entries of levels 2 and 3 half, rounded down, are
- * in use. Levels 4 and 5 are used less, since each entry there stands for thousands of increments: one of level 4 in one bucket in 8, one of level 5 in one
- * in 64. Flagged: the same, and one bucket in 16 has one counter more for level 2 than it has entries, so that 64 full-size buckets come into use.
- * Young: four places of each bucket are counted once. The total is less than level 1 of a bucket has room for, and stays so over the measured calls.
+ * The counts wanted of each flow. Light: every place is counted, to a number from 1 to 100, so that no count goes above level 1, not over the
+ * measured increments either, and the total is far above what level 1 of a bucket has room for. Half full: in each bucket half of the places are
+ * counted; of the entries of levels 2 and 3 half, rounded down, are in use. Levels 4 and 5 are used less, since each entry there stands for
+ * thousands of increments: one of level 4 in one bucket in 8, one of level 5 in one in 64. Flagged: the same, and one bucket in 16 has one counter
+ * more for level 2 than it has entries, so that 64 full-size buckets come into use. Young: four places of each bucket are counted once. The total
+ * is less than level 1 of a bucket has room for, and stays so over the measured calls.
  */
 void wanted_counts(unsigned shape, wall_kind kind, generator *from, uint64_t counts[FLOWS]);
 

@@ -194,7 +194,7 @@ impl Met {
                 }
             }
             for reason in UNSOUND {
-                if self.unsound.get(&(reason, shape)).is_none_or(|counts| counts[1] == 0) {
+                if self.unsound.get(&(reason, shape)).map_or(true, |counts| counts[1] == 0) {
                     missing.push(format!("shape {shape}: no wall is unsound alone for: {reason}"));
                 }
             }

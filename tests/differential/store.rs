@@ -492,7 +492,10 @@ pub fn check(words: &[u64]) -> Answer {
 }
 
 pub fn close(words: &mut [u64]) -> Answer {
-    let Ok(header) = header(words) else { return (7, 0) };
+    let header = match header(words) {
+        Ok(header) => header,
+        Err(_) => return (7, 0),
+    };
     words[2..].fill(0);
     words[3] = header.full as u64;
     (0, 0)

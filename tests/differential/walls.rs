@@ -285,7 +285,10 @@ fn random_counts(rng: &mut Rng, plan: &Plan, left: &mut u64) -> Vec<u64> {
         });
     }
     for (i, place) in places.into_iter().enumerate() {
-        let Some(depth) = (1..=p).rev().find(|d| i < members[d - 1]) else { break };
+        let depth = match (1..=p).rev().find(|d| i < members[d - 1]) {
+            Some(depth) => depth,
+            None => break,
+        };
         let low = if depth == 1 { 0 } else { plan.start(depth) };
         let high = plan.start(depth + 1) - 1;
         let wanted = match rng.below(8) {

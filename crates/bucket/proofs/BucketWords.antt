@@ -10,12 +10,12 @@ use lib.Seq.{paste, length-take-le, take-paste, take-take, take-nil, drop-drop, 
 use Rattle.model.specs.Lists.{splice}
 use Rattle.model.specs.Shapes.{bucketSize}
 use Rattle.model.specs.Walls.{bucketWords, readBucket, readRest}
-use Rattle.layout.specs.declared.Shape.{Shape}
-use Rattle.layout.specs.declared.Bucket.{Bucket}
-use Rattle.layout.specs.Shapes.{rowsIn, Valid}
-use Rattle.layout.specs.Views.{bucketOf}
-use Rattle.layout.proofs.Shapes.{facts, rows-length}
-use Rattle.bucket.proofs.Splices.{splice-copy, word-more, copy-more}
+use Rattle.table.specs.declared.Shape.{Shape}
+use Rattle.bucket.specs.declared.Bucket.{Bucket}
+use Rattle.table.specs.Shapes.{rowsIn, Valid}
+use Rattle.bucket.specs.Views.{bucketOf}
+use Rattle.table.proofs.Shapes.{facts, rows-length}
+use Rattle.model.proofs.Splices.{splice-copy, word-more, copy-more}
 
 -- the arrays have room for the bucket, and the n words lent have all of it
 pub record Room (s : Shape) (at n : ℕ) : Type 0 where
@@ -28,24 +28,24 @@ room s at n v h =
     let f = facts s v in
     record { first = f .first .1; upper = f .levels .1; inside = omega (arith, rows-length (s .uppers) s 0) }
 
-pub stored : (s : Shape) (b : Bucket) (ws : List ℕ) (at : ℕ) (x y : List ℕ) → Room s at (length ws) → length (b .first) ≡ 16 → length (b .upper) ≡ 4
+pub stored : (s : Shape) (b : Bucket) (ws : List ℕ) (at : ℕ) (x y : List ℕ) → Room s at (length ws) → length (b .first) ≡ 16 → length (b .upper .words) ≡ 4
     → x ≡ paste ws at (b .first) (s .width)
-    → y ≡ paste (set x (at + s .width) (b .marks)) (at + s .width + 1) (b .upper) (s .uppers)
-    → set y (at + s .width + 1 + s .uppers) (b .packed) ≡ splice ws at (bucketWords (bucketOf s b))
+    → y ≡ paste (set x (at + s .width) (b .marks)) (at + s .width + 1) (b .upper .words) (s .uppers)
+    → set y (at + s .width + 1 + s .uppers) (b .upper .packed) ≡ splice ws at (bucketWords (bucketOf s b))
 stored s b ws at x y r lf lu ex ey =
     let f : List ℕ = take (s .width) (b .first) in
-    let u : List ℕ = take (s .uppers) (b .upper) in
+    let u : List ℕ = take (s .uppers) (b .upper .words) in
     let nf : length f ≡ s .width = length-take-le (s .width) (b .first) (omega (arith, r .first)) in
-    let nu : length u ≡ s .uppers = length-take-le (s .uppers) (b .upper) (omega (arith, r .upper)) in
+    let nu : length u ≡ s .uppers = length-take-le (s .uppers) (b .upper .words) (omega (arith, r .upper)) in
     let e1 : x ≡ splice ws at f = ex ∙ splice-copy ws at (b .first) (s .width) (omega (arith, r .first)) in
     let e2 : set x (at + s .width) (b .marks) ≡ splice ws at (f ++ b .marks ∷ []) =
     word-more ws at f x e1 (at + s .width) (ap (λ n. at + n) (sym nf)) (b .marks) (omega (arith, r .inside)) in
     let n2 : length (f ++ b .marks ∷ []) ≡ s .width + 1 = length-append f (b .marks ∷ []) ∙ ap (λ n. n + 1) nf in
     let e3 : y ≡ splice ws at ((f ++ b .marks ∷ []) ++ u) =
-    ey ∙ copy-more ws at (f ++ b .marks ∷ []) (set x (at + s .width) (b .marks)) e2 (at + s .width + 1) (omega (arith, n2)) (b .upper) (s .uppers) (omega (arith, r .upper)) (omega (arith, r .inside)) in
+    ey ∙ copy-more ws at (f ++ b .marks ∷ []) (set x (at + s .width) (b .marks)) e2 (at + s .width + 1) (omega (arith, n2)) (b .upper .words) (s .uppers) (omega (arith, r .upper)) (omega (arith, r .inside)) in
     let n3 : length ((f ++ b .marks ∷ []) ++ u) ≡ s .width + 1 + s .uppers = length-append (f ++ b .marks ∷ []) u ∙ ap₂ _+_ n2 nu in
-    let e4 : ((f ++ b .marks ∷ []) ++ u) ++ b .packed ∷ [] ≡ bucketWords (bucketOf s b) = simp append-assoc in
-    word-more ws at ((f ++ b .marks ∷ []) ++ u) y e3 (at + s .width + 1 + s .uppers) (omega (arith, n3)) (b .packed) (r .inside)
+    let e4 : ((f ++ b .marks ∷ []) ++ u) ++ b .upper .packed ∷ [] ≡ bucketWords (bucketOf s b) = simp append-assoc in
+    word-more ws at ((f ++ b .marks ∷ []) ++ u) y e3 (at + s .width + 1 + s .uppers) (omega (arith, n3)) (b .upper .packed) (r .inside)
     ∙ ap (splice ws at) e4
 
 -- ---- what is taken
@@ -80,7 +80,7 @@ read-cut w n l =
 pub taken : (s : Shape) (ws : List ℕ) (at : ℕ) (f u y z : List ℕ) → Room s at (length ws)
     → f ≡ paste y 0 (drop at ws) (s .width)
     → u ≡ paste z 0 (drop (at + s .width + 1) ws) (s .uppers)
-    → bucketOf s (record { first = f; marks = getD ws (at + s .width) 0; upper = u; packed = getD ws (at + s .width + 1 + s .uppers) 0 })
+    → bucketOf s (record { first = f; marks = getD ws (at + s .width) 0; upper = record { words = u; packed = getD ws (at + s .width + 1 + s .uppers) 0 } })
     ≡ readBucket (s .width) (rowsIn s) (take (bucketSize (s .width) (rowsIn s)) (drop at ws))
 taken s ws at f u y z r ef eu =
     let w : ℕ = s .width in

@@ -17,13 +17,12 @@ use Rattle.model.proofs.Lists.{Below, below-take}
 use Rattle.model.proofs.Packing.{pack-take}
 use Rattle.model.proofs.Fields.{join-cut}
 use Rattle.model.proofs.Bridge.{first-words}
-use Rattle.layout.specs.declared.Shape.{Shape}
-use Rattle.layout.specs.declared.Bucket.{Bucket}
-use Rattle.layout.specs.Shapes.{rowsFrom, rowsIn, entriesAt}
-use Rattle.layout.specs.Views.{bucketOf}
-use Rattle.layout.proofs.Shapes.{facts}
-use Rattle.bucket.specs.Shapes.{Fit, levelsFrom}
-use Rattle.bucket.specs.Grow.{uppersOf}
+use Rattle.table.specs.declared.Shape.{Shape}
+use Rattle.bucket.specs.declared.Bucket.{Bucket}
+use Rattle.table.specs.Shapes.{rowsFrom, rowsIn, entriesAt}
+use Rattle.bucket.specs.Views.{bucketOf}
+use Rattle.table.proofs.Shapes.{facts}
+use Rattle.growth.specs.Levels.{Fit, levelsFrom}
 
 -- ---- the words of level 1
 
@@ -67,23 +66,18 @@ word-none m = omega arith
 
 -- ---- a bucket with no flag, no number and no spare bit is that of its levels
 
-pub from-own : (s : Shape) (b : Bucket) → Fit s → length (b .first) ≡ 16 → length (b .upper) ≡ 4 → Below (2 ^ 64) (b .first) → b .packed < 2 ^ sum (markWidths (rowsIn s))
-    → fromLevels (s .width) (rowsIn s) (level (pack 64 (take (s .width) (b .first))) (b .marks) ∷ uppersOf s b) 0 0 ≡ bucketOf s b
+pub from-own : (s : Shape) (b : Bucket) → Fit s → length (b .first) ≡ 16 → length (b .upper .words) ≡ 4 → Below (2 ^ 64) (b .first) → b .upper .packed < 2 ^ sum (markWidths (rowsIn s))
+    → fromLevels (s .width) (rowsIn s) (level (pack 64 (take (s .width) (b .first))) (b .marks) ∷ levelsFrom (s .uppers) s (b .upper .words) (b .upper .packed) 0) 0 0 ≡ bucketOf s b
 from-own s b f k l below h =
     let t = facts s (f .valid) in
     let one : unpack 64 (s .width) (pack 64 (take (s .width) (b .first))) ≡ take (s .width) (b .first) =
     first-words (take (s .width) (b .first)) (s .width) (pack 64 (take (s .width) (b .first))) (below-take (2 ^ 64) (b .first) (s .width) below) (length-take-le (s .width) (b .first) (omega (arith, t .first .1))) refl in
-    let marks : packedWord (joinFields (markWidths (rowsIn s)) (map (λ (x : Level). x .marks) (uppersOf s b))) 0 0 ≡ b .packed =
-    word-none (joinFields (markWidths (rowsIn s)) (map (λ (x : Level). x .marks) (uppersOf s b)))
-    ∙ ap (joinFields (markWidths (rowsIn s))) (marks-from (s .uppers) s (b .upper) (b .packed) 0) ∙ join-cut (markWidths (rowsIn s)) (b .packed) ∙ mod-eq-of-lt h in
-    rw (one, cells-from (s .uppers) s (b .upper) (b .packed) 0 (omega (arith, t .levels .1)), marks)
+    let marks : packedWord (joinFields (markWidths (rowsIn s)) (map (λ (x : Level). x .marks) (levelsFrom (s .uppers) s (b .upper .words) (b .upper .packed) 0))) 0 0 ≡ b .upper .packed =
+    word-none (joinFields (markWidths (rowsIn s)) (map (λ (x : Level). x .marks) (levelsFrom (s .uppers) s (b .upper .words) (b .upper .packed) 0)))
+    ∙ ap (joinFields (markWidths (rowsIn s))) (marks-from (s .uppers) s (b .upper .words) (b .upper .packed) 0) ∙ join-cut (markWidths (rowsIn s)) (b .upper .packed) ∙ mod-eq-of-lt h in
+    rw (one, cells-from (s .uppers) s (b .upper .words) (b .upper .packed) 0 (omega (arith, t .levels .1)), marks)
 
 -- ---- the flag and the number go in
 
 pub over-word : (x n : ℕ) → x % 2 ^ 40 + 2 ^ 40 + n * 2 ^ 48 ≡ packedWord (x % 2 ^ 40) 1 n
 over-word x n = omega arith
-
-pub over-view : (s : Shape) (b : Bucket) (n g : ℕ) → g ≡ b .packed % 2 ^ 40 + 2 ^ 40 + n * 2 ^ 48
-    → bucketOf s (record { first = b .first; marks = b .marks; upper = b .upper; packed = g }) ≡ overflowed (bucketOf s b) n
-unfolding overflowed
-over-view s b n g e = rw (e, over-word (b .packed) n)

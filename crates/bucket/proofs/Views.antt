@@ -12,12 +12,12 @@ use Rattle.model.specs.Packed.{pack, cutFields}
 use Rattle.model.specs.Shapes.{markWidths}
 use Rattle.model.specs.Levels.{level}
 use Rattle.model.specs.Sound.{pairLevels, levelsOf}
-use Rattle.layout.specs.declared.Shape.{Shape}
-use Rattle.layout.specs.declared.Bucket.{Bucket}
-use Rattle.layout.specs.Shapes.{rowsFrom, rowsIn, entriesAt}
-use Rattle.layout.specs.Views.{bucketOf}
-use Rattle.layout.proofs.Shapes.{facts}
-use Rattle.bucket.specs.Shapes.{Fit, levelsFrom}
+use Rattle.table.specs.declared.Shape.{Shape}
+use Rattle.bucket.specs.declared.Bucket.{Bucket}
+use Rattle.table.specs.Shapes.{rowsFrom, rowsIn, entriesAt}
+use Rattle.bucket.specs.Views.{bucketOf}
+use Rattle.table.proofs.Shapes.{facts}
+use Rattle.growth.specs.Levels.{Fit, levelsFrom}
 
 -- the low bits of a number of c bits or more
 low-cut : (g c k : ℕ) → k ≤ c → g % 2 ^ c % 2 ^ k ≡ g % 2 ^ k
@@ -36,8 +36,8 @@ from-view (suc (suc n)) s us g j c h l =
     rw (drop-cons us j 0 (omega arith), low-cut g c k (omega arith), high-cut g c k (omega arith))
     (ap (λ ls. level (getD us j 0) (g % 2 ^ k) ∷ ls) (from-view (suc n) s us (g / 2 ^ k) (suc j) (c - k) (omega arith) (omega arith)))
 
-pub levels-view : (s : Shape) (b : Bucket) → Fit s → length (b .upper) ≡ 4
-    → level (pack 64 (take (s .width) (b .first))) (b .marks) ∷ levelsFrom (s .uppers) s (b .upper) (b .packed) 0 ≡ levelsOf (rowsIn s) (bucketOf s b)
+pub levels-view : (s : Shape) (b : Bucket) → Fit s → length (b .upper .words) ≡ 4
+    → level (pack 64 (take (s .width) (b .first))) (b .marks) ∷ levelsFrom (s .uppers) s (b .upper .words) (b .upper .packed) 0 ≡ levelsOf (rowsIn s) (bucketOf s b)
 levels-view s b f e =
     let t = facts s (f .valid) in
-    ap (λ ls. level (pack 64 (take (s .width) (b .first))) (b .marks) ∷ ls) (from-view (s .uppers) s (b .upper) (b .packed) 0 40 (t .marks) (omega (arith, t .levels)))
+    ap (λ ls. level (pack 64 (take (s .width) (b .first))) (b .marks) ∷ ls) (from-view (s .uppers) s (b .upper .words) (b .upper .packed) 0 40 (t .marks) (omega (arith, t .levels)))

@@ -1,6 +1,2 @@
-pub mod Shapes
-pub mod Held
-pub mod Judge
-pub mod Full
-pub mod Sums
-pub mod Grow
+pub mod Views
+pub mod Raise

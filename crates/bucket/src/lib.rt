@@ -1,15 +1,12 @@
-use layout::Bucket;
-use layout::Shape;
+// A bucket as one value: taken out of the words of a wall, stepped, handed back, and stored there again.
+use growth::Upper;
 
-pub mod full;
-pub mod grow;
-pub mod judge;
-pub mod read;
-pub mod sums;
+pub mod raise;
 pub mod words;
 
-// A bucket in hand: taken out of the wall with its first-level words, and its shape.
-pub struct Held {
-    pub shape: Shape,
-    pub bucket: Bucket,
+// Room for 16 words of level 1, its marks, and the upper levels.
+pub struct Bucket {
+    pub first: [u64; 16],
+    pub marks: u64,
+    pub upper: Upper,
 }

@@ -1,16 +1,16 @@
 // A bucket taken out of the words of a wall, and stored there again.
-use super::Held;
-use layout::Bucket;
-use layout::Shape;
+use super::Bucket;
+use growth::Upper;
+use table::Shape;
 ghost use mathlib.Core.Path.{_≡_};
 ghost use Prim.Native.Nat.{_+_, _≤_};
-ghost use lib.ListN.{length, take, drop};
+ghost use lib.ListN.{length, drop};
 ghost use lib.Seq.{paste};
 ghost use Rattle.model.specs.Lists.{splice};
 ghost use Rattle.model.specs.Shapes.{bucketSize};
-ghost use Rattle.model.specs.Walls.{readBucket, bucketWords};
-ghost use Rattle.layout.specs.Shapes.{rowsIn, Valid};
-ghost use Rattle.bucket.specs.Held.{viewOf};
+ghost use Rattle.model.specs.Walls.{bucketWords};
+ghost use Rattle.table.specs.Shapes.{rowsIn, Valid};
+ghost use Rattle.bucket.specs.Views.{bucketIn, bucketOf};
 
 // n words of `from`, from start on, into `to` from at on. `take` and `store` show that both have as many.
 fn copy(to: &mut [u64], at: usize, from: &[u64], start: usize, n: usize)
@@ -24,43 +24,44 @@ fn copy(to: &mut [u64], at: usize, from: &[u64], start: usize, n: usize)
     }
 }
 
-impl Held {
+impl Bucket {
     // Who read the wall's header knows that the shape is valid and that the words of the bucket are there.
     pub fn take(words: &[u64], at: usize, shape: Shape) -> Self
         requires { ⌜ Valid shape × (at + bucketSize (shape .width) (rowsIn shape) ≤ length (now words)) ⌝ }
-        ensures { λ r. ⌜ (r .shape ≡ shape) × (viewOf r ≡ readBucket (shape .width) (rowsIn shape) (take (bucketSize (shape .width) (rowsIn shape)) (drop at (now (words .entry))))) ⌝ }
+        ensures { λ r. ⌜ bucketOf shape r ≡ bucketIn shape (now (words .entry)) at ⌝ }
     {
         let width = shape.width as usize;
         let uppers = shape.uppers as usize;
         let mut first = [0u64; 16];
         copy(&mut first[..], 0, words, at, width);
         let next = at + width;
-        let mut upper = [0u64; 4];
-        copy(&mut upper[..], 0, words, next + 1, uppers);
-        let bucket = Bucket {
+        let mut cells = [0u64; 4];
+        copy(&mut cells[..], 0, words, next + 1, uppers);
+        let upper = Upper {
+            words: cells,
+            packed: words[next + 1 + uppers],
+        };
+        Bucket {
             first,
             marks: words[next],
             upper,
-            packed: words[next + 1 + uppers],
-        };
-        Held { shape, bucket }
+        }
     }
 
     // Its caller took it out at the same offset.
-    pub fn store(self, words: &mut [u64], at: usize)
-        requires { ⌜ Valid (self .shape) × (at + bucketSize (self .shape .width) (rowsIn (self .shape)) ≤ length (now words)) ⌝ }
-        ensures { λ _. ⌜ now (words .exit) ≡ splice (now (words .entry)) at (bucketWords (viewOf self)) ⌝ }
+    pub fn store(self, words: &mut [u64], at: usize, shape: Shape)
+        requires { ⌜ Valid shape × (at + bucketSize (shape .width) (rowsIn shape) ≤ length (now words)) ⌝ }
+        ensures { λ _. ⌜ now (words .exit) ≡ splice (now (words .entry)) at (bucketWords (bucketOf shape self)) ⌝ }
     {
-        let shape = self.shape;
-        let bucket = self.bucket;
         let width = shape.width as usize;
         let uppers = shape.uppers as usize;
-        let first = bucket.first;
+        let first = self.first;
         copy(words, at, &first[..], 0, width);
         let next = at + width;
-        words[next] = bucket.marks;
-        let upper = bucket.upper;
-        copy(words, next + 1, &upper[..], 0, uppers);
-        words[next + 1 + uppers] = bucket.packed;
+        words[next] = self.marks;
+        let upper = self.upper;
+        let cells = upper.words;
+        copy(words, next + 1, &cells[..], 0, uppers);
+        words[next + 1 + uppers] = upper.packed;
     }
 }

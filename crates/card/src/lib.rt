@@ -16,33 +16,33 @@ pub extern "C" fn wall_raise(
 ) -> Answer
     ensures { λ r. ⌜ outcomeOf r (now (words .exit)) ≡ model.raise shape width bits limit full (now (words .entry)) ⌝ }
 {
-    wall::fresh::raise(words, shape, width, bits, limit, full)
+    fresh::raise(words, shape, width, bits, limit, full)
 }
 
 #[no_mangle]
 pub extern "C" fn wall_lookup(words: &[u64], flow: u64) -> Answer
     ensures { λ r. ⌜ outcomeOf r (now (words .entry)) ≡ model.lookup (now (words .entry)) flow ⌝ }
 {
-    wall::lookup::lookup(words, flow)
+    lookup::lookup(words, flow)
 }
 
 #[no_mangle]
 pub extern "C" fn wall_increment(words: &mut [u64], flow: u64) -> Answer
     ensures { λ r. ⌜ outcomeOf r (now (words .exit)) ≡ model.increment (now (words .entry)) flow ⌝ }
 {
-    wall::increment::increment(words, flow)
+    increment::increment(words, flow)
 }
 
 #[no_mangle]
 pub extern "C" fn wall_check(words: &[u64]) -> Answer
     ensures { λ r. ⌜ outcomeOf r (now (words .entry)) ≡ model.check (now (words .entry)) ⌝ }
 {
-    wall::check::check(words)
+    whole::check(words)
 }
 
 #[no_mangle]
 pub extern "C" fn wall_close(words: &mut [u64]) -> Answer
     ensures { λ r. ⌜ outcomeOf r (now (words .exit)) ≡ model.close (now (words .entry)) ⌝ }
 {
-    wall::fresh::close(words)
+    fresh::close(words)
 }

@@ -12,7 +12,7 @@ fn respond(input: &[u8], out: &mut [u8]) -> usize
     ensures { λ r. ⌜ (r ≡ length (program (now (input .entry)))) × (now (out .exit) ≡ program (now (input .entry)) ++ drop r (now (out .entry))) × Counts r (now (out .exit)) ⌝ }
 {
     let mut words = [0u64; 74];
-    wall::fresh::raise(&mut words, 3, 1, 6, 100, 1);
+    fresh::raise(&mut words, 3, 1, 6, 100, 1);
     lines::lines(input, &mut words, out)
 }
 

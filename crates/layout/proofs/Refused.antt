@@ -10,9 +10,6 @@ use Rattle.model.specs.Shapes.{knownShape, rowsOf, widthAsked, counterBits}
 use Rattle.model.specs.Calls.{reply, refuse, firstMet, limitsRefusals, limitsCall}
 use Rattle.model.proofs.Tools.{tests-and, to-not-not}
 use Rattle.model.proofs.Headers.{shape-bounds}
-use Rattle.layout.specs.declared.Shape.{Shape}
-use Rattle.layout.specs.Shapes.{shapeOf, rowsIn, Valid}
-use Rattle.layout.proofs.Shapes.{table-shape, table-rows}
 use Rattle.model.proofs.Refusals.{first-met, first-clear, reply-done}
 
 shape-known : (p : ℕ) → 3 ≤ p → p ≤ 5 → T (not (not (knownShape p)))
@@ -43,14 +40,6 @@ pub asked-other : (w : ℕ) → (w ≡ 0 → ⊥) → w ≡ widthAsked w
 asked-other zero h = absurd (h refl)
 asked-other (suc w) h = refl
 
--- ---- what is done with a known shape and a width within the limit: u is the width asked for, s the shape made of it
-
-module _ (p w u : ℕ) (s : Shape) (h : 3 ≤ p) (k : p ≤ 5) (l : w ≤ 16) (eu : u ≡ widthAsked w) (es : s ≡ shapeOf p u) where
-  pub asked-valid : Valid s
-  asked-valid = let b = asked-bounds w l in subst Valid (sym es) (table-shape p u h k (omega (arith, b .0)) (omega (arith, b .1)))
-
-  pub asked-bits : counterBits (s .width) (rowsIn s) ≡ counterBits (widthAsked w) (rowsOf p)
-  asked-bits = ap (λ (s : Shape). counterBits (s .width) (rowsIn s)) es ∙ ap₂ counterBits eu (table-rows p u h k)
-
-  pub asked-limits : (n : ℕ) → n ≡ counterBits (s .width) (rowsIn s) → record { number = 0; value = n } ≡ limitsCall p w
-  asked-limits n e = ap (λ v. record { number = 0; value = v }) (e ∙ asked-bits) ∙ limits-done p w h k l
+-- what is done with a known shape and a width within the limit: u is the width asked for
+pub asked-limits : (p w u n : ℕ) → 3 ≤ p → p ≤ 5 → w ≤ 16 → u ≡ widthAsked w → n ≡ counterBits u (rowsOf p) → record { number = 0; value = n } ≡ limitsCall p w
+asked-limits p w u n h k l eu e = ap (λ v. record { number = 0; value = v }) (e ∙ ap (λ u. counterBits u (rowsOf p)) eu) ∙ limits-done p w h k l

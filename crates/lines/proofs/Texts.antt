@@ -5,7 +5,7 @@ use Prim.Native.Nat.{ℕ}
 use native.Mathlib.Omega.{arith}
 use lib.ListN.{length, length-append}
 use Rattle.model.specs.Lists.{splice}
-use Rattle.bucket.proofs.Splices.{splice-on, length-splice}
+use Rattle.model.proofs.Splices.{splice-on, length-splice}
 use Rattle.lines.specs.Writing.{Room, Wrote}
 
 pub same-length : {o s p : List ℕ} {at n : ℕ} → Room o at s → Wrote o at s p n → length p ≡ length o

@@ -27,7 +27,7 @@ fn each_line(input: &[u8], words: &mut [u64], out: &mut [u8]) -> usize
         let Flow::Number(flow) = read::flow_in(&rest[..n]) else {
             return write::bad_line(out, end, line);
         };
-        end = write::answer(out, end, flow, wall::increment::increment(words, flow));
+        end = write::answer(out, end, flow, increment::increment(words, flow));
         at += n + 1;
         line += 1;
     }

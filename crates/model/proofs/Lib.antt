@@ -12,6 +12,7 @@ pub mod Tests
 pub mod Slots
 pub mod Tools
 pub mod Pieces
+pub mod Splices
 pub mod Headers
 pub mod Parsing
 pub mod Sums

@@ -6,8 +6,9 @@ use native.Mathlib.Omega.{arith}
 use lib.Arith.{digits-lt}
 use lib.Pow.{pow-add, pow-mono, pow-pos, shr-lt, split}
 use lib.Count.{ones-le}
-use Rattle.model.specs.Packed.{entry, putIn, rank}
+use Rattle.model.specs.Packed.{entry, putIn, rank, replaced}
 use Rattle.model.proofs.Packing.{rank-ones}
+use Rattle.model.proofs.AcrossWords.{put-adds}
 
 -- past the word there is nothing
 pub entry-past : (b w x a : ℕ) → x < 2 ^ b → b ≤ w * a → 0 ≡ entry w x a
@@ -43,3 +44,6 @@ module _ (x s k : ℕ) where
       let e : j + k + s ≡ b = omega arith in
       let t = joined-lt (x / 2 ^ s / 2 ^ k) u (x % 2 ^ s) j k s b e (shr-lt j k (shr-lt (j + k) s (rw e h))) hu (mod-lt x (pow-pos s)) in
       omega (arith, field-parts, rw add-mul at t)
+
+pub replaced-lt : (b w x a v : ℕ) → x < 2 ^ b → w * a + w ≤ b → v < 2 ^ w → replaced w x a v < 2 ^ b
+replaced-lt b w x a v h l k = omega (arith, put-adds w x a v, field-le x (w * a) w, field-lt x (w * a) w b v h l k)

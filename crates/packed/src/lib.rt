@@ -4,8 +4,6 @@ ghost use Prim.Native.Nat.{_+_, _-_, _*_, _/_, _%_, _≤_, _<_, _^_};
 ghost use lib.Count.{ones};
 ghost use Rattle.model.specs.Packed.{entry, bit, rank, replaced, putIn};
 
-pub mod across;
-
 // 2 to the power k.
 pub fn pow2(k: u64) -> u64
     requires { ⌜ k < 64 ⌝ }
@@ -50,7 +48,7 @@ pub fn rank(x: u64, a: u64) -> u64
 }
 
 // The k bits from bit off on are replaced by u.
-fn put_field(x: u64, off: u64, k: u64, u: u64) -> u64
+pub fn put_field(x: u64, off: u64, k: u64, u: u64) -> u64
     requires { ⌜ (off + k ≤ 64) × (off < 64) × (k < 64) × (u < 2 ^ k) ⌝ }
     ensures { λ r. ⌜ r + x / 2 ^ off % 2 ^ k * 2 ^ off ≡ x + u * 2 ^ off ⌝ }
 {

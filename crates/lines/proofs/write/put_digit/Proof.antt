@@ -1,6 +1,6 @@
 use borrow.Author.Needs.{needs}
 use mathlib.Core.Path.{refl}
-use Rattle.bucket.proofs.Splices.{splice-word}
+use Rattle.model.proofs.Splices.{splice-word}
 use Rattle.lines.specs.Transcript.{digit}
 use Rattle.lines.proofs.write.put_digit.Statement.{statement}
 use Rattle.lines.proofs.write.put_digit.Tie as tie

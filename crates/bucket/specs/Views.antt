@@ -1,0 +1,29 @@
+-- A bucket of the code as the model's, and what the model says of it.
+use mathlib.Core.Bool.{Bool}
+use mathlib.Core.List.{List}
+use Prim.Native.Nat.{ℕ}
+use lib.ListN.{take, drop}
+use Rattle.model.specs.Shapes.{allRows, bucketSize}
+use Rattle.model.specs.Levels.{soundLevels}
+use Rattle.model.specs.Walls.{readBucket}
+use Rattle.model.specs.Walls as model
+use Rattle.model.specs.Sound.{levelsOf, ownCounts}
+use Rattle.table.specs.declared.Shape.{Shape}
+use Rattle.table.specs.Shapes.{rowsIn}
+use Rattle.bucket.specs.declared.Bucket.{Bucket}
+
+-- the words of level 1 and of the upper levels that the shape has
+abbrev pub bucketOf : Shape → Bucket → model.Bucket
+bucketOf s b = record { first = take (s .width) (b .first); marks = b .marks; uppers = take (s .uppers) (b .upper .words); packed = b .upper .packed }
+
+-- the 64 counts that its levels hold
+abbrev pub ownOf : Shape → Bucket → List ℕ
+ownOf s b = ownCounts (s .width) (rowsIn s) (bucketOf s b)
+
+-- its levels are sound
+abbrev pub soundOf : Shape → Bucket → Bool
+soundOf s b = soundLevels 0 (allRows (s .width) (rowsIn s)) 64 (levelsOf (rowsIn s) (bucketOf s b))
+
+-- the bucket of this shape whose words begin at an offset
+abbrev pub bucketIn : Shape → List ℕ → ℕ → model.Bucket
+bucketIn s ws at = readBucket (s .width) (rowsIn s) (take (bucketSize (s .width) (rowsIn s)) (drop at ws))

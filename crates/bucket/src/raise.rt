@@ -1,0 +1,129 @@
+// A count of a bucket comes to a larger value, or the bucket overflows.
+use super::Bucket;
+use table::Shape;
+ghost use mathlib.Core.Path.{_≡_};
+ghost use Prim.Native.Nat.{_+_, _≤_, _<_, _^_};
+ghost use lib.Dec.{T};
+ghost use lib.ListN.{length, set};
+ghost use Rattle.model.specs.Lists.{splice};
+ghost use Rattle.model.specs.Shapes.{bucketSize};
+ghost use Rattle.model.specs.Walls.{bucketWords};
+ghost use Rattle.model.specs.Sound.{ownCounts, packedWord, upperMarks};
+ghost use Rattle.model.specs.Calls.{holding};
+ghost use Rattle.table.specs.Shapes.{rowsIn};
+ghost use Rattle.bucket.specs.Views.{bucketIn, bucketOf, ownOf};
+ghost use Rattle.bucket.specs.Raise.{Put, Raises, RaisesIn, Stays, hasRoom};
+
+impl Bucket {
+    // The part of a place in level 1, of this width: it may cross two words. Who judged the bucket shows what these ask.
+    pub fn put(mut self, width: u64, place: u64, part: u64) -> Self
+        requires { ⌜ (place < 64) × (1 ≤ width) × (width ≤ 16) × (part < 2 ^ width) ⌝ }
+        ensures { λ r. ⌜ Put self width place part r ⌝ }
+    {
+        let s = width * place;
+        let q = (s / 64) as usize;
+        let off = s % 64;
+        if off + width <= 64 {
+            self.first[q] = packed::put_field(self.first[q], off, width, part);
+            return self;
+        }
+        let have = 64 - off;
+        self.first[q] = packed::put_field(self.first[q], off, have, part % packed::pow2(have));
+        self.first[q + 1] = packed::put_field(self.first[q + 1], 0, width - have, part >> have);
+        self
+    }
+
+    // Whether the levels have room for a place to come to the value.
+    pub fn room(self, shape: Shape, place: u64, value: u64) -> bool
+        requires { ⌜ Raises shape self place value ⌝ }
+        ensures { λ r. ⌜ r ≡ hasRoom shape self place value ⌝ }
+    {
+        let high = value >> shape.width;
+        if high == 0 {
+            return true;
+        }
+        let marks = self.marks;
+        let upper = self.upper;
+        if packed::bit(marks, place) == 0 {
+            return rooms::room_to_enter(
+                marks,
+                upper.packed,
+                shape.uppers,
+                shape.entries,
+                shape.widths,
+                high,
+            );
+        }
+        rooms::room_to_raise(
+            upper.packed,
+            shape.uppers,
+            shape.entries,
+            shape.widths,
+            packed::rank(marks, place),
+            high,
+        )
+    }
+
+    // The count at a place comes to the value, for which there is room.
+    pub fn raise(self, shape: Shape, place: u64, value: u64) -> Self
+        requires { ⌜ Raises shape self place value × T (hasRoom shape self place value) ⌝ }
+        ensures { λ r. ⌜ bucketOf shape r ≡ holding (shape .width) (rowsIn shape) (set (ownOf shape self) place value) ⌝ }
+    {
+        let w = shape.width;
+        let mut b = self.put(w, place, value % packed::pow2(w));
+        let high = value >> w;
+        if high == 0 {
+            return b;
+        }
+        let marks = b.marks;
+        let upper = b.upper;
+        let next = packed::rank(marks, place);
+        if packed::bit(marks, place) == 0 {
+            b.marks = packed::set_mark(marks, place);
+            b.upper = upper.grow(shape, shape.uppers, 0, 0, next, high);
+            return b;
+        }
+        b.upper = upper.rise(shape, next, high);
+        b
+    }
+
+    // The levels and marks stay, the flag and the number go into the packed word. A wall has at most 4,096 numbers.
+    pub fn overflow(mut self, number: u64) -> Self
+        requires { ⌜ number < 2 ^ 16 ⌝ }
+        ensures { λ r. ⌜ (r .first ≡ self .first) × (r .marks ≡ self .marks) × (r .upper .words ≡ self .upper .words) × (r .upper .packed ≡ packedWord (upperMarks (self .upper .packed)) 1 number) ⌝ }
+    {
+        let mut upper = self.upper;
+        let marks = upper.packed % packed::pow2(40);
+        upper.packed = marks + packed::pow2(40) + number * packed::pow2(48);
+        self.upper = upper;
+        self
+    }
+
+    // The step of a count whose part in level 1 alone changes: the bucket is taken out, stepped and stored. `step_first` shows what this asks.
+    fn step_part(words: &mut [u64], at: usize, shape: Shape, place: u64, value: u64)
+        requires { ⌜ (at + bucketSize (shape .width) (rowsIn shape) ≤ length (now words)) × RaisesIn shape (bucketIn shape (now words) at) place value × Stays shape (bucketIn shape (now words) at) place value ⌝ }
+        ensures { λ _. ⌜ now (words .exit) ≡ splice (now (words .entry)) at (bucketWords (holding (shape .width) (rowsIn shape) (set (ownCounts (shape .width) (rowsIn shape) (bucketIn shape (now (words .entry)) at)) place value))) ⌝ }
+    {
+        let w = shape.width;
+        let part = value % packed::pow2(w);
+        Bucket::take(words, at, shape).put(w, place, part).store(words, at, shape);
+    }
+
+    // The same. The default width has its own copy, which the compiler unrolls. Who judged the bucket shows what this asks.
+    pub fn step_first(words: &mut [u64], at: usize, shape: Shape, place: u64, value: u64)
+        requires { ⌜ (at + bucketSize (shape .width) (rowsIn shape) ≤ length (now words)) × RaisesIn shape (bucketIn shape (now words) at) place value × Stays shape (bucketIn shape (now words) at) place value ⌝ }
+        ensures { λ _. ⌜ now (words .exit) ≡ splice (now (words .entry)) at (bucketWords (holding (shape .width) (rowsIn shape) (set (ownCounts (shape .width) (rowsIn shape) (bucketIn shape (now (words .entry)) at)) place value))) ⌝ }
+    {
+        if shape.width == 7 {
+            let default = Shape {
+                uppers: shape.uppers,
+                width: 7,
+                entries: shape.entries,
+                widths: shape.widths,
+            };
+            Bucket::step_part(words, at, default, place, value);
+            return;
+        }
+        Bucket::step_part(words, at, shape, place, value);
+    }
+}

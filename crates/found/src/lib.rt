@@ -1,0 +1,106 @@
+// Bucket i of a wall whose header is good, judged and read where it lies.
+use uppers::Judged;
+use layout::Wall;
+ghost use mathlib.Core.Path.{_≡_};
+ghost use Prim.Native.Nat.{_+_, _*_, _-_, _/_, _<_, _^_};
+ghost use lib.ListN.{getD};
+ghost use Rattle.model.specs.Lists.{sum};
+ghost use Rattle.model.specs.Walls.{Bucket, bucketsIn, parse};
+ghost use Rattle.model.specs.Sound.{bucketAt, countsAt, soundAt};
+ghost use Rattle.layout.specs.Views.{headerOf};
+ghost use Rattle.uppers.specs.Judge.{verdict};
+ghost use Rattle.header.specs.Headers.{Open};
+
+// The packed word of a bucket. A good header and the slot of one of its flows show what these ask.
+pub fn packed_word(words: &[u64], v: Wall, i: u64) -> u64
+    requires { ⌜ Open (now words) v × (i < bucketsIn (headerOf v)) ⌝ }
+    ensures { λ r. ⌜ r ≡ bucketAt (parse (now (words .entry))) i .packed ⌝ }
+{
+    let uppers = v.shape - 1;
+    let last = header::bucket_at(v, i) + v.width as usize + 1 + uppers as usize;
+    words[last]
+}
+
+// A bucket that has more than marks in its packed word: the flag and a number in use, or it is unsound. `read` and `weigh` show that it has.
+fn judge_flagged(words: &[u64], v: Wall, i: u64, packed: u64) -> Judged
+    requires { ⌜ Open (now words) v × (i < bucketsIn (headerOf v)) × (packed ≡ bucketAt (parse (now words)) i .packed) × (0 < packed / 2 ^ 40) ⌝ }
+    ensures { λ r. ⌜ r ≡ verdict (soundAt (parse (now (words .entry))) i) (sum (countsAt (parse (now (words .entry))) i)) ⌝ }
+{
+    if (packed >> 40) % 256 != 1 {
+        return Judged::Unsound;
+    }
+    if v.used <= packed >> 48 {
+        return Judged::Unsound;
+    }
+    fulls::judge(
+        words,
+        header::bucket_at(v, i),
+        v.width,
+        v.shape - 1,
+        table::entries_of(v.shape),
+        table::widths_of(v.shape),
+        header::full_at(v, packed >> 48),
+        v.total,
+    )
+}
+
+// The count at a place of such a bucket. `read` shows what this asks.
+fn read_flagged(words: &[u64], v: Wall, i: u64, place: u64, packed: u64) -> Judged
+    requires { ⌜ Open (now words) v × (i < bucketsIn (headerOf v)) × (packed ≡ bucketAt (parse (now words)) i .packed) × (0 < packed / 2 ^ 40) × (place < 64) ⌝ }
+    ensures { λ r. ⌜ r ≡ verdict (soundAt (parse (now (words .entry))) i) (getD (countsAt (parse (now (words .entry))) i) place 0) ⌝ }
+{
+    let Judged::Sound(_) = judge_flagged(words, v, i, packed) else {
+        return Judged::Unsound;
+    };
+    let at = header::bucket_at(v, i);
+    let f = header::full_at(v, packed >> 48);
+    Judged::Sound(fulls::count(
+        words,
+        at,
+        place,
+        v.width,
+        v.shape - 1,
+        table::entries_of(v.shape),
+        table::widths_of(v.shape),
+        f,
+    ))
+}
+
+// The count at a place, if the bucket is sound.
+pub fn read(words: &[u64], v: Wall, i: u64, place: u64) -> Judged
+    requires { ⌜ Open (now words) v × (i < bucketsIn (headerOf v)) × (place < 64) ⌝ }
+    ensures { λ r. ⌜ r ≡ verdict (soundAt (parse (now (words .entry))) i) (getD (countsAt (parse (now (words .entry))) i) place 0) ⌝ }
+{
+    let packed = packed_word(words, v, i);
+    if 0 < packed >> 40 {
+        return read_flagged(words, v, i, place, packed);
+    }
+    let at = header::bucket_at(v, i);
+    let uppers = v.shape - 1;
+    let e = table::entries_of(v.shape);
+    let ws = table::widths_of(v.shape);
+    if !plain::judge(words, at, v.width, uppers, e, ws, v.total) {
+        return Judged::Unsound;
+    }
+    Judged::Sound(plain::count(words, at, place, v.width, uppers, e, ws))
+}
+
+// The sum of its counts, if the bucket is sound.
+pub fn weigh(words: &[u64], v: Wall, i: u64) -> Judged
+    requires { ⌜ Open (now words) v × (i < bucketsIn (headerOf v)) ⌝ }
+    ensures { λ r. ⌜ r ≡ verdict (soundAt (parse (now (words .entry))) i) (sum (countsAt (parse (now (words .entry))) i)) ⌝ }
+{
+    let packed = packed_word(words, v, i);
+    if 0 < packed >> 40 {
+        return judge_flagged(words, v, i, packed);
+    }
+    plain::weigh(
+        words,
+        header::bucket_at(v, i),
+        v.width,
+        v.shape - 1,
+        table::entries_of(v.shape),
+        table::widths_of(v.shape),
+        v.total,
+    )
+}

@@ -1,0 +1,84 @@
+use answer::Answer;
+use header::Opened;
+use layout::Wall;
+ghost use mathlib.Core.Path.{_≡_};
+ghost use mathlib.Core.List.{_++_};
+ghost use Prim.Native.Nat.{_-_, _≤_};
+ghost use lib.ListN.{length, replicate, take};
+ghost use Rattle.answer.specs.Answers.{outcomeOf};
+ghost use Rattle.model.specs.Calls as model;
+ghost use Rattle.model.specs.Walls.{fresh, wallSize};
+ghost use Rattle.layout.specs.Views.{headerOf};
+ghost use Rattle.header.specs.Headers.{Known};
+
+// Zero in all words.
+fn clear(words: &mut [u64])
+    ensures { λ _. ⌜ now (words .exit) ≡ replicate (length (now (words .entry))) 0 ⌝ }
+{
+    let mut i = 0;
+    while i < words.len() {
+        words[i] = 0;
+        i += 1;
+    }
+}
+
+// The fresh wall of a header, whatever stood in the words. `raise` and `close` show what it asks.
+fn write(words: &mut [u64], v: Wall)
+    requires { ⌜ Known v × (v .full ≤ 4096) × (v .spare ≡ 0) × (length (now words) ≡ wallSize (headerOf v)) ⌝ }
+    ensures { λ _. ⌜ now (words .exit) ≡ fresh (headerOf v) ⌝ }
+{
+    clear(words);
+    words[0] = v.bits * 72057594037927936
+        + v.width * 281474976710656
+        + v.shape * 1099511627776
+        + header::MARK;
+    words[1] = v.limit;
+    words[3] = v.full;
+}
+
+// A fresh wall in the words lent.
+pub fn raise(words: &mut [u64], shape: u64, width: u64, bits: u64, limit: u64, full: u64) -> Answer
+    ensures { λ r. ⌜ outcomeOf r (now (words .exit)) ≡ model.raise shape width bits limit full (now (words .entry)) ⌝ }
+{
+    if !header::known_shape(shape) {
+        return Answer::refused(1);
+    }
+    if Wall::MAX_WIDTH < width {
+        return Answer::refused(2);
+    }
+    if !slot::known_bits(bits) {
+        return Answer::refused(3);
+    }
+    let v = Wall {
+        shape,
+        width: Wall::width_asked(width),
+        bits,
+        limit,
+        total: 0,
+        full,
+        used: 0,
+        spare: 0,
+    };
+    if !header::limit_fits(v) {
+        return Answer::refused(4);
+    }
+    if !header::full_fits(v) {
+        return Answer::refused(5);
+    }
+    if words.len() as u64 != header::size(v) {
+        return Answer::refused(6);
+    }
+    write(words, v);
+    Answer::done(0)
+}
+
+// The interval ends: the fresh wall of the same header.
+pub fn close(words: &mut [u64]) -> Answer
+    ensures { λ r. ⌜ outcomeOf r (now (words .exit)) ≡ model.close (now (words .entry)) ⌝ }
+{
+    let Opened::Good(v) = header::open(words) else {
+        return Answer::refused(7);
+    };
+    write(words, v);
+    Answer::done(0)
+}

@@ -1,0 +1,3 @@
+pub mod Encoded
+pub mod Rooms
+pub mod Raises

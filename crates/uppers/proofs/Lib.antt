@@ -1,0 +1,4 @@
+pub mod Verdicts
+pub mod Judging
+pub mod Level
+pub mod Uppers

@@ -1,4 +1,0 @@
-pub mod Headers
-pub mod Judge
-pub mod Step
-pub mod Check

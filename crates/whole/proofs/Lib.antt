@@ -1,0 +1,5 @@
+pub mod Bitmap
+pub mod Holding
+pub mod Tallying
+pub mod Zeros
+pub mod Checking

@@ -1,0 +1,390 @@
+/*
+ * The stack of each call: it runs on a stack of its own that is painted before, and the deepest word that changed tells how far it went, beyond the
+ * return address. The walls are written word by word as docs/WALL.md has them. Prints the most bytes of each call at each shape; the exit status is 1
+ * where one reaches the line, or where a call does not answer what is expected of it.
+ *
+ * STORE is the prefix of the five calls.
+ */
+#define _GNU_SOURCE
+
+#include "wall.h"
+
+#include <inttypes.h>
+#include <stdbool.h>
+#include <stdio.h>
+#include <stdlib.h>
+#include <string.h>
+#include <ucontext.h>
+
+#ifndef STORE
+#define STORE wall
+#endif
+#define JOINED(store, call) store##_##call
+#define NAMED(store, call) JOINED(store, call)
+#define CALL(call) NAMED(STORE, call)
+
+enum { LINE = 2048, STACK_WORDS = 8192, SHAPES = 3, RAISE = 0, LOOKUP, INCREMENT, CHECK, CLOSE, CALL_KINDS };
+
+/* Two buckets; the second has the counts. */
+enum { HEAD_WORDS = 4, PLACES = 64, BITS = 7, BUCKETS = 2, BUCKET = 1, FULL = 2, FLOWS = 1 << BITS, FULL_WORDS = 65, MAX_WIDTH = 16, MAX_SHAPE = 5 };
+enum { MOST_WORDS = HEAD_WORDS + BUCKETS * (MAX_WIDTH + MAX_SHAPE + 1) + FULL * FULL_WORDS };
+
+#define PAINT 0x5ca1ab1e5ca1ab1eu
+#define ONE ((uint64_t)1)
+
+static const char *const names[CALL_KINDS] = {"raise", "lookup", "increment", "check", "close"};
+
+/* Entries and widths of levels 2 and up, by shape - 3 and level - 2. */
+static const unsigned entries[SHAPES][4] = {{15, 3}, {25, 10, 2}, {25, 10, 3, 1}};
+static const unsigned widths[SHAPES][4] = {{4, 13}, {2, 4, 12}, {2, 3, 4, 9}};
+
+typedef struct {
+    wall_answer (*raise)(uint64_t *, size_t, uint64_t, uint64_t, uint64_t, uint64_t, uint64_t);
+    wall_answer (*lookup)(const uint64_t *, size_t, uint64_t);
+    wall_answer (*increment)(uint64_t *, size_t, uint64_t);
+    wall_answer (*check)(const uint64_t *, size_t);
+    wall_answer (*close)(uint64_t *, size_t);
+} calls;
+
+#define UNUSED __attribute__((unused))
+
+static wall_answer no_raise(uint64_t *w UNUSED, size_t n UNUSED, uint64_t s UNUSED, uint64_t d UNUSED, uint64_t b UNUSED, uint64_t m UNUSED,
+                            uint64_t j UNUSED)
+{
+    return (wall_answer){0, 0};
+}
+
+static wall_answer no_lookup(const uint64_t *w UNUSED, size_t n UNUSED, uint64_t flow UNUSED)
+{
+    return (wall_answer){0, 0};
+}
+
+static wall_answer no_increment(uint64_t *w UNUSED, size_t n UNUSED, uint64_t flow UNUSED)
+{
+    return (wall_answer){0, 0};
+}
+
+static wall_answer no_check(const uint64_t *w UNUSED, size_t n UNUSED)
+{
+    return (wall_answer){0, 0};
+}
+
+static wall_answer no_close(uint64_t *w UNUSED, size_t n UNUSED)
+{
+    return (wall_answer){0, 0};
+}
+
+static const calls measured = {CALL(raise), CALL(lookup), CALL(increment), CALL(check), CALL(close)};
+static const calls empty = {no_raise, no_lookup, no_increment, no_check, no_close};
+
+static _Alignas(64) uint64_t painted[STACK_WORDS];
+static ucontext_t outside, inside;
+
+/* The wall, the arguments of a raise, and the call under way. */
+static uint64_t words[MOST_WORDS], shape, width, bits, limit, full, flow;
+static size_t length;
+static const calls *volatile by;
+static unsigned kind;
+static volatile wall_answer came;
+
+static size_t most[CALL_KINDS][SHAPES];
+
+static void inside_stack(void)
+{
+    switch (kind) {
+    case RAISE:
+        came = by->raise(words, length, shape, width, bits, limit, full);
+        break;
+    case LOOKUP:
+        came = by->lookup(words, length, flow);
+        break;
+    case INCREMENT:
+        came = by->increment(words, length, flow);
+        break;
+    case CHECK:
+        came = by->check(words, length);
+        break;
+    default:
+        came = by->close(words, length);
+    }
+    swapcontext(&inside, &outside);
+}
+
+static size_t depth(const calls *calls_of)
+{
+    size_t lowest = 0;
+    by = calls_of;
+    for (size_t n = 0; n < STACK_WORDS; n++)
+        painted[n] = PAINT;
+    getcontext(&inside);
+    inside.uc_stack.ss_sp = painted;
+    inside.uc_stack.ss_size = sizeof painted;
+    inside.uc_link = &outside;
+    makecontext(&inside, inside_stack, 0);
+    swapcontext(&outside, &inside);
+    while (lowest < STACK_WORDS && painted[lowest] == PAINT)
+        lowest++;
+    return (STACK_WORDS - lowest) * sizeof *painted;
+}
+
+/* The wall's own shape and width: a refused raise has others in its arguments. */
+static unsigned levels, first_width;
+
+/* A call, which answers this number, and its stack, if it is the most yet. */
+static void take(unsigned call, uint64_t number)
+{
+    kind = call;
+    size_t bare = depth(&empty), took = depth(&measured);
+    if (came.number != number) {
+        fprintf(stderr, "stack: %s, shape %u, width %u: expected %" PRIu64 ", came %" PRIu64 "\n", names[call], levels, first_width, number, came.number);
+        exit(1);
+    }
+    if (took - bare > most[call][levels - 3])
+        most[call][levels - 3] = took - bare;
+}
+
+static void take_value(unsigned call, uint64_t value)
+{
+    take(call, WALL_DONE);
+    if (came.value != value) {
+        fprintf(stderr, "stack: %s, shape %u, width %u: expected the value %" PRIu64 ", came %" PRIu64 "\n", names[call], levels, first_width, value,
+                came.value);
+        exit(1);
+    }
+}
+
+static unsigned entries_of(unsigned level)
+{
+    return level == 1 ? PLACES : entries[levels - 3][level - 2];
+}
+
+static unsigned width_of(unsigned level)
+{
+    return level == 1 ? first_width : widths[levels - 3][level - 2];
+}
+
+/* The least count that uses a level. */
+static uint64_t least(unsigned level)
+{
+    unsigned begin = 0;
+    for (unsigned below = 1; below < level; below++)
+        begin += width_of(below);
+    return ONE << begin;
+}
+
+/* The flow at a place of the bucket with the counts: its slot in reverse order. */
+static uint64_t flow_at(unsigned place)
+{
+    uint64_t slot = BUCKET * PLACES + place, reversed = 0;
+    for (unsigned bit = 0; bit < BITS; bit++)
+        reversed |= (slot >> bit & 1) << (BITS - 1 - bit);
+    return reversed;
+}
+
+static void raised(uint64_t of_full)
+{
+    shape = levels;
+    width = first_width;
+    bits = BITS;
+    limit = least(levels + 1) - 1;
+    full = of_full;
+    length = HEAD_WORDS + BUCKETS * (width + shape + 1) + FULL_WORDS * full;
+    take(RAISE, WALL_DONE);
+}
+
+static uint64_t *bucket_words(void)
+{
+    return words + HEAD_WORDS + BUCKET * (first_width + levels + 1);
+}
+
+static void put_bits(uint64_t *at, unsigned from, unsigned count, uint64_t value)
+{
+    for (unsigned bit = 0; bit < count; bit++)
+        at[(from + bit) / 64] |= (value >> bit & 1) << (from + bit) % 64;
+}
+
+/* The bucket of these counts and their total, in a fresh wall. */
+static void write_counts(const uint64_t counts[PLACES])
+{
+    uint64_t *bucket = bucket_words(), left[PLACES];
+    unsigned users = PLACES, mark_bit = 0;
+    memcpy(left, counts, sizeof left);
+    for (unsigned place = 0; place < PLACES; place++)
+        words[2] += counts[place];
+    for (unsigned level = 1; level <= levels; level++) {
+        uint64_t *at = level == 1 ? bucket : bucket + first_width + level - 1, marks = 0;
+        unsigned bits_each = width_of(level), going = 0;
+        for (unsigned entry = 0; entry < users; entry++) {
+            put_bits(at, entry * bits_each, bits_each, left[entry]);
+            if (left[entry] >> bits_each) {
+                marks |= ONE << entry;
+                left[going++] = left[entry] >> bits_each;
+            }
+        }
+        users = going;
+        if (level == 1)
+            bucket[first_width] = marks;
+        else {
+            bucket[first_width + levels] |= marks << mark_bit;
+            mark_bit += entries_of(level);
+        }
+    }
+}
+
+/* A refusal for each reason that a raise has, and then the wall of the good arguments. */
+static void raises(void)
+{
+    raised(FULL);
+    shape = 6, take(RAISE, WALL_BAD_SHAPE), shape = levels;
+    width = MAX_WIDTH + 1, take(RAISE, WALL_BAD_WIDTH), width = first_width;
+    bits = 5, take(RAISE, WALL_BAD_BITS), bits = BITS;
+    limit++, take(RAISE, WALL_BAD_LIMIT), limit--;
+    full = BUCKETS + 1, take(RAISE, WALL_BAD_FULL), full = FULL;
+    length--, take(RAISE, WALL_BAD_LENGTH), length++;
+    raised(FULL);
+}
+
+/* The calls over a wall as it stands, at one place, and a check. */
+static void all_at(unsigned place, uint64_t count)
+{
+    flow = flow_at(place);
+    take_value(LOOKUP, count);
+    take_value(INCREMENT, count + 1);
+    take_value(LOOKUP, count + 1);
+    take_value(CHECK, 0);
+}
+
+static void all_refused(uint64_t number)
+{
+    take(LOOKUP, number);
+    take(INCREMENT, number);
+    take(CHECK, number);
+}
+
+static void bad_headers_and_flows(void)
+{
+    raised(FULL);
+    flow = FLOWS;
+    take(LOOKUP, WALL_NO_FLOW);
+    take(INCREMENT, WALL_NO_FLOW);
+    for (unsigned turn = 0; turn < 3; turn++) {
+        uint64_t word = words[turn];
+        words[turn] = ~word;
+        all_refused(WALL_BAD_HEADER);
+        take(CLOSE, WALL_BAD_HEADER);
+        words[turn] = word;
+    }
+    length--;
+    all_refused(WALL_BAD_HEADER);
+    take(CLOSE, WALL_BAD_HEADER);
+    length++;
+    take(CLOSE, WALL_DONE);
+}
+
+/* A bucket with counters in every level, at the edge of each: a carry into this level, which has room. */
+static void carry_into(unsigned level)
+{
+    uint64_t counts[PLACES] = {0};
+    enum { LOW = 3, CARRIED = 5, HIGH = 9 };
+    raised(FULL);
+    counts[LOW] = 1;
+    counts[CARRIED] = least(level) - 1;
+    counts[HIGH] = entries_of(level) > 1 ? least(level) : 0;
+    write_counts(counts);
+    all_at(CARRIED, least(level) - 1);
+    all_at(LOW, 1);
+    all_at(HIGH, counts[HIGH]);
+    take(CLOSE, WALL_DONE);
+}
+
+/* Words that are damaged after a level was used, and a total that is too small, at its limit, or too large. */
+static void damaged(unsigned level)
+{
+    uint64_t counts[PLACES] = {least(level), 1}, *last = bucket_words() + first_width + levels - 1, *packed = last + 1;
+    raised(FULL);
+    write_counts(counts);
+    flow = flow_at(0);
+    *last ^= ONE << 63, all_refused(WALL_UNSOUND), *last ^= ONE << 63;
+    *packed ^= ONE << 47, all_refused(WALL_UNSOUND), *packed ^= ONE << 47;
+    *packed ^= ONE << 40, all_refused(WALL_UNSOUND), *packed ^= ONE << 40;
+    words[2]--, all_refused(WALL_UNSOUND), words[2]++;
+    words[1] = words[2], take(INCREMENT, WALL_AT_LIMIT), words[1] = limit;
+    words[2]++, take(CHECK, WALL_UNSOUND_WALL), words[2]--;
+    take(CHECK, WALL_DONE);
+}
+
+enum { OVERFLOWING = 40 };
+
+/* A level with all its entries in use, and a counter that comes to its edge. */
+static void write_crowd(unsigned level, uint64_t of_full)
+{
+    uint64_t counts[PLACES] = {0};
+    raised(of_full);
+    for (unsigned place = 0; place < entries_of(level); place++)
+        counts[place] = least(level);
+    counts[OVERFLOWING] = least(level) - 1;
+    write_counts(counts);
+}
+
+/* An overflow, refused without full-size buckets; then a flagged bucket, of which one place is moved, then two, then all. */
+static void overflow_of(unsigned level)
+{
+    write_crowd(level, 0);
+    flow = flow_at(OVERFLOWING);
+    take(INCREMENT, WALL_NO_FULL);
+    write_crowd(level, FULL);
+    all_at(OVERFLOWING, least(level) - 1);
+    all_at(OVERFLOWING, least(level));
+    all_at(0, least(level));
+    if (words[3] != (ONE << 16 | FULL)) {
+        fprintf(stderr, "stack: shape %u, width %u: no overflow into level %u\n", levels, first_width, level);
+        exit(1);
+    }
+    for (unsigned place = 0; place < PLACES; place++) {
+        flow = flow_at(place);
+        take(LOOKUP, WALL_DONE);
+        take_value(INCREMENT, came.value + 1);
+    }
+    take(CHECK, WALL_DONE);
+    uint64_t *held = words + length - FULL * FULL_WORDS + PLACES, count = *held;
+    *held = 0, all_refused(WALL_UNSOUND), *held = count;
+    words[2]--, all_refused(WALL_UNSOUND), words[2]++;
+    take(CLOSE, WALL_DONE);
+}
+
+static void walls_of(unsigned of_shape, unsigned of_width)
+{
+    levels = of_shape;
+    first_width = of_width;
+    raises();
+    all_at(0, 0);
+    bad_headers_and_flows();
+    for (unsigned level = 2; level <= levels; level++) {
+        carry_into(level);
+        damaged(level);
+        overflow_of(level);
+    }
+}
+
+int main(void)
+{
+    size_t highest = 0, rows = 0;
+    for (unsigned of_shape = 3; of_shape <= MAX_SHAPE; of_shape++) {
+        walls_of(of_shape, 7);
+        walls_of(of_shape, 1);
+        walls_of(of_shape, MAX_WIDTH);
+    }
+    printf("%-10s %8s %8s %8s\n", "call", "shape 3", "shape 4", "shape 5");
+    for (unsigned call = 0; call < CALL_KINDS; call++) {
+        printf("%-10s %8zu %8zu %8zu\n", names[call], most[call][0], most[call][1], most[call][2]);
+        for (unsigned of_shape = 3; of_shape <= MAX_SHAPE; of_shape++, rows++) {
+            size_t took = most[call][of_shape - 3];
+            if (took >= LINE)
+                fprintf(stderr, "stack: %s takes %zu bytes at shape %u, and has to stay below %d\n", names[call], took, of_shape, LINE);
+            if (took > highest)
+                highest = took;
+        }
+    }
+    printf("stack: %zu rows, the most %zu of %d bytes\n", rows, highest, LINE);
+    return highest >= LINE;
+}
