@@ -10,11 +10,11 @@ use lib.Seq.{paste, length-take-le, take-paste, take-take, take-nil, drop-drop, 
 use Rattle.model.specs.Lists.{splice}
 use Rattle.model.specs.Shapes.{bucketSize}
 use Rattle.model.specs.Walls.{bucketWords, readBucket, readRest}
-use Rattle.table.specs.declared.Shape.{Shape}
+use Rattle.shapes.specs.declared.Shape.{Shape}
 use Rattle.bucket.specs.declared.Bucket.{Bucket}
-use Rattle.table.specs.Shapes.{rowsIn, Valid}
+use Rattle.shapes.specs.Shapes.{rowsIn, Valid}
 use Rattle.bucket.specs.Views.{bucketOf}
-use Rattle.table.proofs.Shapes.{facts, rows-length}
+use Rattle.shapes.proofs.Shapes.{facts, rows-length}
 use Rattle.model.proofs.Splices.{splice-copy, word-more, copy-more}
 
 -- the arrays have room for the bucket, and the n words lent have all of it

@@ -16,9 +16,9 @@ use Rattle.model.proofs.Coding.{Sound}
 use Rattle.model.proofs.Headers.{valid-fine}
 use Rattle.model.proofs.Buckets.{levels-sound}
 use Rattle.model.proofs.Bridge.{bump-hold, room-crowded}
-use Rattle.table.specs.Shapes.{rowsIn}
-use Rattle.table.proofs.Shapes.{facts}
-use Rattle.table.specs.declared.Shape.{Shape}
+use Rattle.shapes.specs.Shapes.{rowsIn}
+use Rattle.shapes.proofs.Shapes.{facts}
+use Rattle.shapes.specs.declared.Shape.{Shape}
 use Rattle.growth.specs.Levels.{Fit}
 use Rattle.bucket.specs.declared.Bucket.{Bucket}
 use Rattle.bucket.specs.Views.{bucketOf, ownOf, soundOf}

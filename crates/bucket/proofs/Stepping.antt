@@ -21,10 +21,10 @@ use Rattle.model.proofs.Lists.{Below}
 use Rattle.model.proofs.Coding.{Fits, Sound}
 use Rattle.model.proofs.Crowding.{T-true, T-false, bucket-fits}
 use Rattle.model.proofs.Buckets.{levels-sound, sound-levels, length-own, own-fits, own-coded}
-use Rattle.table.specs.declared.Shape.{Shape}
-use Rattle.table.specs.Shapes.{rowsIn}
+use Rattle.shapes.specs.declared.Shape.{Shape}
+use Rattle.shapes.specs.Shapes.{rowsIn}
 use Rattle.growth.specs.declared.Upper.{Upper}
-use Rattle.table.proofs.Shapes.{facts}
+use Rattle.shapes.proofs.Shapes.{facts}
 use Rattle.rooms.specs.Growth.{entering, roomToEnter, raising, roomToRaise}
 use Rattle.rooms.proofs.Encoded.{zero-lt, raise-stay, raising-encode, room-to-raise, fits-same}
 use Rattle.bucket.specs.declared.Bucket.{Bucket}

@@ -17,11 +17,11 @@ use Rattle.model.proofs.Lists.{Below, below-take}
 use Rattle.model.proofs.Packing.{pack-take}
 use Rattle.model.proofs.Fields.{join-cut}
 use Rattle.model.proofs.Bridge.{first-words}
-use Rattle.table.specs.declared.Shape.{Shape}
+use Rattle.shapes.specs.declared.Shape.{Shape}
 use Rattle.bucket.specs.declared.Bucket.{Bucket}
-use Rattle.table.specs.Shapes.{rowsFrom, rowsIn, entriesAt}
+use Rattle.shapes.specs.Shapes.{rowsFrom, rowsIn, entriesAt}
 use Rattle.bucket.specs.Views.{bucketOf}
-use Rattle.table.proofs.Shapes.{facts}
+use Rattle.shapes.proofs.Shapes.{facts}
 use Rattle.growth.specs.Levels.{Fit, levelsFrom}
 
 -- ---- the words of level 1

@@ -12,11 +12,11 @@ use Rattle.model.specs.Packed.{pack, cutFields}
 use Rattle.model.specs.Shapes.{markWidths}
 use Rattle.model.specs.Levels.{level}
 use Rattle.model.specs.Sound.{pairLevels, levelsOf}
-use Rattle.table.specs.declared.Shape.{Shape}
+use Rattle.shapes.specs.declared.Shape.{Shape}
 use Rattle.bucket.specs.declared.Bucket.{Bucket}
-use Rattle.table.specs.Shapes.{rowsFrom, rowsIn, entriesAt}
+use Rattle.shapes.specs.Shapes.{rowsFrom, rowsIn, entriesAt}
 use Rattle.bucket.specs.Views.{bucketOf}
-use Rattle.table.proofs.Shapes.{facts}
+use Rattle.shapes.proofs.Shapes.{facts}
 use Rattle.growth.specs.Levels.{Fit, levelsFrom}
 
 -- the low bits of a number of c bits or more

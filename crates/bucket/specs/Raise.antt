@@ -10,8 +10,8 @@ use Rattle.model.specs.Shapes.{allRows, counterBits, markWidths}
 use Rattle.model.specs.Levels.{soundLevels, crowded}
 use Rattle.model.specs.Walls as model
 use Rattle.model.specs.Sound.{levelsOf, ownCounts}
-use Rattle.table.specs.declared.Shape.{Shape}
-use Rattle.table.specs.Shapes.{rowsIn}
+use Rattle.shapes.specs.declared.Shape.{Shape}
+use Rattle.shapes.specs.Shapes.{rowsIn}
 use Rattle.bucket.specs.declared.Bucket.{Bucket}
 use Rattle.bucket.specs.Views.{bucketOf, ownOf}
 use Rattle.growth.specs.Levels.{Fit}

@@ -8,8 +8,8 @@ use Rattle.model.specs.Levels.{soundLevels}
 use Rattle.model.specs.Walls.{readBucket}
 use Rattle.model.specs.Walls as model
 use Rattle.model.specs.Sound.{levelsOf, ownCounts}
-use Rattle.table.specs.declared.Shape.{Shape}
-use Rattle.table.specs.Shapes.{rowsIn}
+use Rattle.shapes.specs.declared.Shape.{Shape}
+use Rattle.shapes.specs.Shapes.{rowsIn}
 use Rattle.bucket.specs.declared.Bucket.{Bucket}
 
 -- the words of level 1 and of the upper levels that the shape has

@@ -1,6 +1,6 @@
 // A count of a bucket comes to a larger value, or the bucket overflows.
 use super::Bucket;
-use table::Shape;
+use shapes::Shape;
 ghost use mathlib.Core.Path.{_≡_};
 ghost use Prim.Native.Nat.{_+_, _≤_, _<_, _^_};
 ghost use lib.Dec.{T};
@@ -10,7 +10,7 @@ ghost use Rattle.model.specs.Shapes.{bucketSize};
 ghost use Rattle.model.specs.Walls.{bucketWords};
 ghost use Rattle.model.specs.Sound.{ownCounts, packedWord, upperMarks};
 ghost use Rattle.model.specs.Calls.{holding};
-ghost use Rattle.table.specs.Shapes.{rowsIn};
+ghost use Rattle.shapes.specs.Shapes.{rowsIn};
 ghost use Rattle.bucket.specs.Views.{bucketIn, bucketOf, ownOf};
 ghost use Rattle.bucket.specs.Raise.{Put, Raises, RaisesIn, Stays, hasRoom};
 
@@ -106,7 +106,9 @@ impl Bucket {
     {
         let w = shape.width;
         let part = value % packed::pow2(w);
-        Bucket::take(words, at, shape).put(w, place, part).store(words, at, shape);
+        Bucket::take(words, at, shape)
+            .put(w, place, part)
+            .store(words, at, shape);
     }
 
     // The same. The default width has its own copy, which the compiler unrolls. Who judged the bucket shows what this asks.

@@ -1,7 +1,7 @@
 // A bucket taken out of the words of a wall, and stored there again.
 use super::Bucket;
 use growth::Upper;
-use table::Shape;
+use shapes::Shape;
 ghost use mathlib.Core.Path.{_≡_};
 ghost use Prim.Native.Nat.{_+_, _≤_};
 ghost use lib.ListN.{length, drop};
@@ -9,7 +9,7 @@ ghost use lib.Seq.{paste};
 ghost use Rattle.model.specs.Lists.{splice};
 ghost use Rattle.model.specs.Shapes.{bucketSize};
 ghost use Rattle.model.specs.Walls.{bucketWords};
-ghost use Rattle.table.specs.Shapes.{rowsIn, Valid};
+ghost use Rattle.shapes.specs.Shapes.{rowsIn, Valid};
 ghost use Rattle.bucket.specs.Views.{bucketIn, bucketOf};
 
 // n words of `from`, from start on, into `to` from at on. `take` and `store` show that both have as many.

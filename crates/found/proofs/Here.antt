@@ -26,7 +26,7 @@ use Rattle.plain.proofs.Views as views
 use Rattle.plain.proofs.Table.{rows3, rows4, rows5, ahead3, ahead4, ahead5}
 use Rattle.fulls.specs.Fulls.{Judges, ownIn}
 use Rattle.header.specs.Headers.{Known, Open}
-use Rattle.table.specs.Shapes.{entryBytes, widthBytes}
+use Rattle.shapes.specs.Shapes.{entryBytes, widthBytes}
 use Rattle.header.proofs.Opening.{length-of-bucket}
 use Rattle.header.proofs.Places.{open-known, open-limits, open-header, bucket-within, bucket-here, full-within, full-here}
 

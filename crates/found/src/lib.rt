@@ -1,6 +1,6 @@
 // Bucket i of a wall whose header is good, judged and read where it lies.
-use uppers::Judged;
 use layout::Wall;
+use uppers::Judged;
 ghost use mathlib.Core.Path.{_≡_};
 ghost use Prim.Native.Nat.{_+_, _*_, _-_, _/_, _<_, _^_};
 ghost use lib.ListN.{getD};
@@ -37,8 +37,8 @@ fn judge_flagged(words: &[u64], v: Wall, i: u64, packed: u64) -> Judged
         header::bucket_at(v, i),
         v.width,
         v.shape - 1,
-        table::entries_of(v.shape),
-        table::widths_of(v.shape),
+        shapes::entries_of(v.shape),
+        shapes::widths_of(v.shape),
         header::full_at(v, packed >> 48),
         v.total,
     )
@@ -60,8 +60,8 @@ fn read_flagged(words: &[u64], v: Wall, i: u64, place: u64, packed: u64) -> Judg
         place,
         v.width,
         v.shape - 1,
-        table::entries_of(v.shape),
-        table::widths_of(v.shape),
+        shapes::entries_of(v.shape),
+        shapes::widths_of(v.shape),
         f,
     ))
 }
@@ -77,8 +77,8 @@ pub fn read(words: &[u64], v: Wall, i: u64, place: u64) -> Judged
     }
     let at = header::bucket_at(v, i);
     let uppers = v.shape - 1;
-    let e = table::entries_of(v.shape);
-    let ws = table::widths_of(v.shape);
+    let e = shapes::entries_of(v.shape);
+    let ws = shapes::widths_of(v.shape);
     if !plain::judge(words, at, v.width, uppers, e, ws, v.total) {
         return Judged::Unsound;
     }
@@ -99,8 +99,8 @@ pub fn weigh(words: &[u64], v: Wall, i: u64) -> Judged
         header::bucket_at(v, i),
         v.width,
         v.shape - 1,
-        table::entries_of(v.shape),
-        table::widths_of(v.shape),
+        shapes::entries_of(v.shape),
+        shapes::widths_of(v.shape),
         v.total,
     )
 }

@@ -23,7 +23,7 @@ use Rattle.uppers.specs.declared.Judged.the-variants.{Sound, Unsound}
 use Rattle.uppers.specs.Judge.{verdict}
 use Rattle.moves.specs.Full.{fullTests}
 use Rattle.uppers.proofs.Verdicts.{said-sound, said-not}
-use Rattle.totals.specs.Sums.{firstSum}
+use Rattle.sums.specs.Sums.{firstSum}
 use Rattle.uppers.specs.Uppers.{rowsBy, levelsBy, markBits, soundBy, sumBy, judged, Ahead}
 use Rattle.plain.specs.Plain.{bucketIn}
 use Rattle.plain.proofs.Soundness.{bool-eq, under, marks-sum, levels-same, packed-here, sum-here, sum-small}

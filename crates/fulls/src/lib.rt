@@ -151,7 +151,7 @@ pub fn judge(
     ) else {
         return Judged::Unsound;
     };
-    let own = upper + totals::sum_first(words, at, width);
+    let own = upper + sums::sum_first(words, at, width);
     if total < own {
         return Judged::Unsound;
     }

@@ -11,9 +11,9 @@ use Rattle.model.specs.Lists.{sum}
 use Rattle.model.specs.Shapes.{Row, validRow, falling, allRows, markWidths}
 use Rattle.model.proofs.Tools.{Each, all-tests, and-tests}
 use Rattle.model.proofs.Coding.{height}
-use Rattle.table.specs.declared.Shape.{Shape}
-use Rattle.table.specs.Shapes.{rowsFrom, rowsIn, entriesAt, widthAt}
-use Rattle.table.proofs.Shapes.{facts, counter-sum, widthsOf}
+use Rattle.shapes.specs.declared.Shape.{Shape}
+use Rattle.shapes.specs.Shapes.{rowsFrom, rowsIn, entriesAt, widthAt}
+use Rattle.shapes.proofs.Shapes.{facts, counter-sum, widthsOf}
 use Rattle.growth.specs.Levels.{Fit, At}
 
 -- the bits of marks of the levels ahead

@@ -12,8 +12,8 @@ use Rattle.model.specs.Shapes.{Row, row}
 use Rattle.model.specs.Levels.{Level, level}
 use Rattle.model.proofs.Tools.{Each}
 use Rattle.model.proofs.Coding.{height}
-use Rattle.table.specs.declared.Shape.{Shape}
-use Rattle.table.specs.Shapes.{rowsFrom, rowsIn, entriesAt, widthAt}
+use Rattle.shapes.specs.declared.Shape.{Shape}
+use Rattle.shapes.specs.Shapes.{rowsFrom, rowsIn, entriesAt, widthAt}
 use Rattle.uppers.specs.Uppers as uppers
 use Rattle.rooms.specs.Growth.{roomToEnter, roomToRaise}
 use Rattle.rooms.specs.Rooms.{roomBy, raiseBy, SaysRoom, SaysRaise}

@@ -10,8 +10,8 @@ use lib.Pow.{pow-add, pow-pos, shr-shr, field, mod-mod-pow}
 use lib.Count.{ones}
 use Rattle.model.specs.Packed.{entry, bit, rank, replaced}
 use Rattle.model.proofs.AcrossWords.{put-adds}
-use Rattle.table.specs.declared.Shape.{Shape}
-use Rattle.table.specs.Shapes.{rowsFrom, entriesAt, widthAt}
+use Rattle.shapes.specs.declared.Shape.{Shape}
+use Rattle.shapes.specs.Shapes.{rowsFrom, entriesAt, widthAt}
 use Rattle.rooms.specs.Growth.{entering, raising, roomToEnter, roomToRaise}
 use Rattle.rooms.proofs.Encoded.{zero-lt}
 use Rattle.growth.specs.declared.Upper.{Upper}

@@ -10,8 +10,8 @@ use lib.Pow.{pow-pos}
 use lib.Count.{ones}
 use Rattle.model.specs.Packed.{putIn, rank}
 use Rattle.model.specs.Levels.{soundLevels}
-use Rattle.table.specs.declared.Shape.{Shape}
-use Rattle.table.specs.Shapes.{rowsFrom, entriesAt, widthAt}
+use Rattle.shapes.specs.declared.Shape.{Shape}
+use Rattle.shapes.specs.Shapes.{rowsFrom, entriesAt, widthAt}
 use Rattle.rooms.specs.Growth.{entering, roomToEnter}
 use Rattle.rooms.proofs.Encoded.{zero-lt}
 use Rattle.growth.specs.declared.Upper.{Upper}

@@ -23,9 +23,9 @@ use Rattle.model.proofs.Crowding.{T-true, T-false}
 use Rattle.model.proofs.Tools.{and-tests}
 use Rattle.model.proofs.Buckets.{levels-sound, sound-levels}
 use Rattle.packed.proofs.Words.{putIn-lt}
-use Rattle.table.specs.declared.Shape.{Shape}
-use Rattle.table.specs.Shapes.{rowsFrom, entriesAt, widthAt}
-use Rattle.table.proofs.Shapes.{counter-sum}
+use Rattle.shapes.specs.declared.Shape.{Shape}
+use Rattle.shapes.specs.Shapes.{rowsFrom, entriesAt, widthAt}
+use Rattle.shapes.proofs.Shapes.{counter-sum}
 use Rattle.growth.specs.Levels.{marksOf, levelsFrom}
 use Rattle.rooms.specs.Growth.{entering, roomToEnter}
 use Rattle.growth.proofs.Ahead.{marksAhead, marks-next}

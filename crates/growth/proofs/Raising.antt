@@ -17,8 +17,8 @@ use Rattle.model.specs.Shapes.{counterBits}
 use Rattle.model.specs.Levels.{level}
 use Rattle.model.proofs.Packing.{rank-ones}
 use Rattle.packed.proofs.Words.{replaced-lt}
-use Rattle.table.specs.declared.Shape.{Shape}
-use Rattle.table.specs.Shapes.{rowsFrom, entriesAt, widthAt}
+use Rattle.shapes.specs.declared.Shape.{Shape}
+use Rattle.shapes.specs.Shapes.{rowsFrom, entriesAt, widthAt}
 use Rattle.growth.specs.Levels.{levelsFrom}
 use Rattle.rooms.specs.Growth.{entering, roomToEnter, raising, roomToRaise}
 use Rattle.growth.proofs.Growing.{mark-pos}
@@ -83,7 +83,6 @@ module _ (s : Shape) (us : List ℕ) (g j a v : ℕ) where
   raise-rise (suc zero) h z f = absurd (omega arith)
   raise-rise (suc (suc l)) h z f =
       rw (sub-one, add-one j, mark-set (g % 2 ^ entriesAt s j) a f) (mark-pos (v / 2 ^ widthAt s j) (level (replaced (widthAt s j) (getD us j 0) a (v % 2 ^ widthAt s j)) (g % 2 ^ entriesAt s j) ∷ (levelsFrom (suc l) s us (g / 2 ^ entriesAt s j) (suc j))) (level (replaced (widthAt s j) (getD us j 0) a (v % 2 ^ widthAt s j)) (g % 2 ^ entriesAt s j) ∷ raising (rowsFrom (suc l) s (suc j)) (levelsFrom (suc l) s us (g / 2 ^ entriesAt s j) (suc j)) (rank (g % 2 ^ entriesAt s j) a) (v / 2 ^ widthAt s j)) z)
-
 
   -- room at the last level: nothing is left above it
   pub rise-end : (left : ℕ) → left ≡ 1 → T (roomToRaise (rowsFrom left s j) (levelsFrom left s us g j) a v) → v / 2 ^ widthAt s j ≡ 0

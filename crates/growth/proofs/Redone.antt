@@ -11,8 +11,8 @@ use lib.Pow.{pow-pos, high, low, shr-shr, split, field, mod-mod-pow}
 use Rattle.model.specs.Lists.{sum}
 use Rattle.model.specs.Shapes.{markWidths}
 use Rattle.model.specs.Levels.{Level, level}
-use Rattle.table.specs.declared.Shape.{Shape}
-use Rattle.table.specs.Shapes.{rowsFrom, entriesAt}
+use Rattle.shapes.specs.declared.Shape.{Shape}
+use Rattle.shapes.specs.Shapes.{rowsFrom, entriesAt}
 use Rattle.growth.specs.declared.Upper.{Upper}
 use Rattle.growth.specs.Levels.{levelsFrom, levelsIn}
 use Rattle.growth.specs.Grow.{Redone, Grown}
@@ -29,8 +29,7 @@ field-put x r o k u h e =
     let q : ℕ = y / 2 ^ k in
     let l : x % 2 ^ o < 2 ^ o = mod-lt x (pow-pos o) in
     let s : (q * 2 ^ k + y % 2 ^ k) * 2 ^ o + x % 2 ^ o ≡ x = ap (λ n. n * 2 ^ o + x % 2 ^ o) (split y k) ∙ split x o in
-    let z : r ≡ (q * 2 ^ k + u) * 2 ^ o + x % 2 ^ o = rw add-mul (omega (arith, rw add-mul at s, e)) in
-    (
+    let z : r ≡ (q * 2 ^ k + u) * 2 ^ o + x % 2 ^ o = rw add-mul (omega (arith, rw add-mul at s, e)) in (
       ap (λ n. n % 2 ^ o) z ∙ low (q * 2 ^ k + u) o l,
       ap (λ n. n / 2 ^ o % 2 ^ k) z ∙ ap (λ n. n % 2 ^ k) (high (q * 2 ^ k + u) o l) ∙ low q k h,
       ap (λ n. n / 2 ^ o / 2 ^ k) z ∙ ap (λ n. n / 2 ^ k) (high (q * 2 ^ k + u) o l) ∙ high q k h,

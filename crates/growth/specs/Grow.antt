@@ -7,8 +7,8 @@ use lib.ListN.{getD, set}
 use Rattle.model.specs.Lists.{sum}
 use Rattle.model.specs.Shapes.{markWidths}
 use Rattle.model.specs.Levels.{Level, soundLevels}
-use Rattle.table.specs.declared.Shape.{Shape}
-use Rattle.table.specs.Shapes.{rowsFrom}
+use Rattle.shapes.specs.declared.Shape.{Shape}
+use Rattle.shapes.specs.Shapes.{rowsFrom}
 use Rattle.rooms.specs.Growth.{roomToEnter, roomToRaise}
 use Rattle.growth.specs.declared.Upper.{Upper}
 use Rattle.growth.specs.Levels.{At, levelsIn}

@@ -5,8 +5,8 @@ use Prim.Native.Nat.{ℕ, zero, suc, _+_, _/_, _%_, _^_, _≤_}
 use lib.ListN.{getD}
 use Rattle.model.specs.Shapes.{counterBits}
 use Rattle.model.specs.Levels.{Level, level}
-use Rattle.table.specs.declared.Shape.{Shape}
-use Rattle.table.specs.Shapes.{rowsIn, entriesAt, Valid}
+use Rattle.shapes.specs.declared.Shape.{Shape}
+use Rattle.shapes.specs.Shapes.{rowsIn, entriesAt, Valid}
 use Rattle.growth.specs.declared.Upper.{Upper}
 
 -- a valid shape whose 64 counts add up within a word: with the table's rows L is at most 34

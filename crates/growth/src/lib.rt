@@ -1,10 +1,10 @@
 // The upper levels of a bucket as one value, under a counter that grows: that there is room for it was found before.
-use table::Shape;
+use shapes::Shape;
 ghost use mathlib.Core.Path.{_≡_};
 ghost use Prim.Native.Nat.{_+_, _-_, _*_, _/_, _%_, _≤_, _<_, _^_};
 ghost use lib.ListN.{getD, set};
 ghost use Rattle.model.specs.Packed.{putIn, replaced};
-ghost use Rattle.table.specs.Shapes.{rowsFrom, rowsIn};
+ghost use Rattle.shapes.specs.Shapes.{rowsFrom, rowsIn};
 ghost use Rattle.rooms.specs.Growth.{entering, raising};
 ghost use Rattle.growth.specs.Levels.{levelsIn};
 ghost use Rattle.growth.specs.Grow.{Comes, Grown, Redone, Rises};

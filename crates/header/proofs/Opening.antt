@@ -17,9 +17,9 @@ use Rattle.model.proofs.Tools.{and-tests, tests-and}
 use Rattle.model.proofs.Headers.{Limits, limits-of, good-of, of-good, shape-bounds, rows-fine, eq-eqb}
 use Rattle.model.proofs.Headers as model
 use Rattle.layout.specs.declared.Wall.{Wall}
-use Rattle.table.specs.Shapes.{shapeOf, Valid}
+use Rattle.shapes.specs.Shapes.{shapeOf, Valid}
 use Rattle.layout.specs.Views.{headerOf}
-use Rattle.table.proofs.Shapes.{table-shape, table-length}
+use Rattle.shapes.proofs.Shapes.{table-shape, table-length}
 use Rattle.header.specs.declared.Opened.the-variants.{Good, Bad}
 use Rattle.header.specs.Headers.{fieldsOf, Known, Marked, Open, openedOf}
 

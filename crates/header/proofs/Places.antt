@@ -15,11 +15,11 @@ use Rattle.model.proofs.Headers.{Limits, good-of}
 use Rattle.model.proofs.Headers as model
 use Rattle.model.proofs.Parsing.{bucket-at, full-at}
 use Rattle.model.proofs.SoundWalls.{parse-header}
-use Rattle.table.specs.declared.Shape.{Shape}
+use Rattle.shapes.specs.declared.Shape.{Shape}
 use Rattle.layout.specs.declared.Wall as layout
-use Rattle.table.specs.Shapes.{shapeOf, rowsIn}
+use Rattle.shapes.specs.Shapes.{shapeOf, rowsIn}
 use Rattle.layout.specs.Views.{headerOf}
-use Rattle.table.proofs.Shapes.{table-rows, counter-sum, widthsOf}
+use Rattle.shapes.proofs.Shapes.{table-rows, counter-sum, widthsOf}
 use Rattle.header.specs.Headers.{Known, Open}
 use Rattle.header.proofs.Opening.{good-known}
 

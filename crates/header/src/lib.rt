@@ -84,7 +84,7 @@ pub fn limit_fits(v: Wall) -> bool
     if v.limit < 1 {
         return false;
     }
-    v.limit < packed::pow2(table::counter_bits(v.shape, v.width))
+    v.limit < packed::pow2(shapes::counter_bits(v.shape, v.width))
 }
 
 pub fn full_fits(v: Wall) -> bool

@@ -24,9 +24,9 @@ use Rattle.model.specs.Shapes.{allRows}
 use Rattle.model.specs.Sound.{levelsOf}
 use Rattle.layout.specs.declared.Wall.{Wall}
 use Rattle.layout.specs.Views.{headerOf}
-use Rattle.table.specs.declared.Shape.{Shape}
-use Rattle.table.specs.Shapes.{rowsIn, shapeOf, Valid}
-use Rattle.table.proofs.Shapes.{table-rows}
+use Rattle.shapes.specs.declared.Shape.{Shape}
+use Rattle.shapes.specs.Shapes.{rowsIn, shapeOf, Valid}
+use Rattle.shapes.proofs.Shapes.{table-rows}
 use Rattle.bucket.specs.declared.Bucket as code
 use Rattle.bucket.specs.Views.{bucketOf, bucketIn, ownOf}
 use Rattle.growth.specs.Levels.{Fit}

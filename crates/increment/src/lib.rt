@@ -2,7 +2,7 @@ use answer::Answer;
 use bucket::Bucket;
 use header::Opened;
 use layout::Wall;
-use table::Shape;
+use shapes::Shape;
 use uppers::Judged;
 ghost use mathlib.Core.Path.{_≡_};
 ghost use mathlib.Core.List.{[], _∷_};
@@ -70,15 +70,7 @@ fn step_plain(
 }
 
 // Place `at` of bucket i comes from a count to a larger one. Judging the bucket shows what this asks.
-fn step(
-    words: &mut [u64],
-    v: Wall,
-    i: u64,
-    at: u64,
-    was: u64,
-    count: u64,
-    total: u64,
-) -> Answer
+fn step(words: &mut [u64], v: Wall, i: u64, at: u64, was: u64, count: u64, total: u64) -> Answer
     requires { ⌜ Ready (now words) v i at count × (was ≡ getD (countsAt (parse (now words)) i) at 0) ⌝ }
     ensures { λ r. ⌜ outcomeOf r (now (words .exit)) ≡ stepIn (now (words .entry)) i at count total ⌝ }
 {

@@ -69,5 +69,5 @@ pub fn limits(shape: u64, width: u64) -> Answer
         return Answer::refused(2);
     }
     let w = Wall::width_asked(width);
-    Answer::done(table::counter_bits(shape, w))
+    Answer::done(shapes::counter_bits(shape, w))
 }

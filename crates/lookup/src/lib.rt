@@ -1,6 +1,6 @@
 use answer::Answer;
-use uppers::Judged;
 use header::Opened;
+use uppers::Judged;
 ghost use mathlib.Core.Path.{_≡_};
 ghost use Rattle.answer.specs.Answers.{outcomeOf};
 ghost use Rattle.model.specs.Calls as model;

@@ -30,7 +30,7 @@ use Rattle.uppers.specs.declared.Judged.the-variants.{Sound, Unsound}
 use Rattle.uppers.specs.Judge.{verdict, sumLevels}
 use Rattle.uppers.proofs.Verdicts.{said-sound, said-not}
 use Rattle.uppers.proofs.Judging.{sum-most}
-use Rattle.totals.specs.Sums.{firstSum}
+use Rattle.sums.specs.Sums.{firstSum}
 use Rattle.uppers.specs.Uppers.{rowsBy, levelsBy, markBits, soundBy, sumBy, judged, Ahead, marksOf}
 use Rattle.plain.specs.Plain.{bucketIn}
 use Rattle.plain.proofs.Views.{bucket-here, levels-here}

@@ -3,7 +3,7 @@ ghost use mathlib.Core.Path.{_≡_};
 ghost use Prim.Native.Nat.{_+_, _≤_, _<_, _^_};
 ghost use lib.Dec.{leb};
 ghost use lib.ListN.{length, getD, drop};
-ghost use Rattle.totals.specs.Sums.{firstSum};
+ghost use Rattle.sums.specs.Sums.{firstSum};
 ghost use Rattle.model.specs.Sound.{ownCounts};
 ghost use Rattle.uppers.specs.Uppers.{Ahead, rowsBy};
 ghost use Rattle.plain.specs.Plain.{bucketIn, SaysSound, Weighs};
@@ -28,7 +28,7 @@ fn within(words: &[u64], at: usize, width: u64, upper: u64, total: u64) -> bool
     if upper + 64 * (packed::pow2(width) - 1) <= total {
         return true;
     }
-    upper + totals::sum_first(words, at, width) <= total
+    upper + sums::sum_first(words, at, width) <= total
 }
 
 // Whether a bucket without the flag, the number and spare bits is sound. Who read the wall's header knows what this asks.
@@ -80,7 +80,7 @@ pub fn weigh(
     ) else {
         return Judged::Unsound;
     };
-    let own = upper + totals::sum_first(words, at, width);
+    let own = upper + sums::sum_first(words, at, width);
     if total < own {
         return Judged::Unsound;
     }

@@ -102,6 +102,6 @@ module _ {n g₀ e₀ w₀ a₀ v₀ left g e w a v : ℕ} (k : Raising n g₀ e
       in-word = omega (arith, k .in-word, rank-le (g % 2 ^ (e % 256)) a);
       passed = k .passed + 1;
       same = λ ws at.
-        ap (λ i. raiseBy (left - 1) ws i (g / 2 ^ (e % 256)) (e / 256) (w / 256) (rank (g % 2 ^ (e % 256)) a) (v / 2 ^ (w % 256))) (sym (add-assoc at (k .passed) 1))
-        ∙ on ws (at + k .passed) g e w a v left h f z ∙ k .same ws at;
+          ap (λ i. raiseBy (left - 1) ws i (g / 2 ^ (e % 256)) (e / 256) (w / 256) (rank (g % 2 ^ (e % 256)) a) (v / 2 ^ (w % 256))) (sym (add-assoc at (k .passed) 1))
+          ∙ on ws (at + k .passed) g e w a v left h f z ∙ k .same ws at;
     }

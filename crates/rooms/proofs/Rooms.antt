@@ -86,6 +86,6 @@ module _ {n g₀ e₀ w₀ m₀ v₀ left g e w m v : ℕ} (k : Rooming n g₀ e
     ahead = ahead-on left e w (k .weight) h (k .ahead) .4;
     passed = k .passed + 1;
     same = λ ws at.
-      ap (λ i. roomBy (left - 1) ws i (g / 2 ^ (e % 256)) (e / 256) (w / 256) (g % 2 ^ (e % 256)) (v / 2 ^ (w % 256))) (sym (add-assoc at (k .passed) 1))
-      ∙ sym (on ws (at + k .passed) g e w m v left h l f) ∙ k .same ws at;
+        ap (λ i. roomBy (left - 1) ws i (g / 2 ^ (e % 256)) (e / 256) (w / 256) (g % 2 ^ (e % 256)) (v / 2 ^ (w % 256))) (sym (add-assoc at (k .passed) 1))
+        ∙ sym (on ws (at + k .passed) g e w m v left h l f) ∙ k .same ws at;
   }

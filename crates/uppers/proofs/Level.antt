@@ -50,7 +50,7 @@ module _ {w n cells marks x i above : ℕ} (g : Summing w n cells marks x i abov
       record {
         total = g .total + x % 2 ^ w;
         judging = subst (λ k. Judging w n cells marks (g .total + x % 2 ^ w) (x / 2 ^ w) (marks / 2 ^ (i + 1)) k) left
-          (subst (λ m. Judging w n cells marks (g .total + x % 2 ^ w) (x / 2 ^ w) m (n - i - 1)) up (next (g .judging) (omega arith) p));
+            (subst (λ m. Judging w n cells marks (g .total + x % 2 ^ w) (x / 2 ^ w) m (n - i - 1)) up (next (g .judging) (omega arith) p));
         parts = rw (add-mul above q (2 ^ w - 1)) (omega (arith, g .parts, split x w));
         within = omega arith;
       }

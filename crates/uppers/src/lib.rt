@@ -60,7 +60,16 @@ fn judge_empty(words: &[u64], first: usize, n: usize, sum: u64) -> Judged
 
 // The upper levels, whose words begin at `first`, under the marks m1 of level 1; g has their own marks, and bytes of e and ws are their entries and widths.
 // Who read the wall's header knows that the shape is valid and that the words are there.
-pub fn judge(words: &[u64], first: usize, m1: u64, g: u64, width: u64, uppers: u64, e: u64, ws: u64) -> Judged
+pub fn judge(
+    words: &[u64],
+    first: usize,
+    m1: u64,
+    g: u64,
+    width: u64,
+    uppers: u64,
+    e: u64,
+    ws: u64,
+) -> Judged
     requires { ⌜ Ahead uppers e ws width × (1 ≤ uppers) × (uppers ≤ 4) × (first + uppers ≤ length (now words)) ⌝ }
     ensures { λ r. ⌜ r ≡ judged uppers (now (words .entry)) first g e ws (ones m1) width 0 ⌝ }
 {
@@ -100,7 +109,15 @@ pub fn judge(words: &[u64], first: usize, m1: u64, g: u64, width: u64, uppers: u
         widths = widths >> 8;
         weight += w;
     }
-    judge_last(words[at], packed::count(m), marks, entries, widths, weight, sum)
+    judge_last(
+        words[at],
+        packed::count(m),
+        marks,
+        entries,
+        widths,
+        weight,
+        sum,
+    )
 }
 
 // The last level has no marks. `judge` shows what this asks.

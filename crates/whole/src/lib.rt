@@ -1,7 +1,7 @@
 use answer::Answer;
-use uppers::Judged;
 use header::Opened;
 use layout::Wall;
+use uppers::Judged;
 ghost use mathlib.Core.Path.{_≡_};
 ghost use Prim.Native.Nat.{_<_};
 ghost use Rattle.answer.specs.Answers.{outcomeOf};

@@ -2,7 +2,7 @@ use Rattle.increment.proofs.Writing.{shape-fits, inside, lies, raises, 
 use Rattle.header.proofs.Places.{open-good, open-known, open-limits, full-within}
 use Rattle.bucket.specs.Raise.{RaisesIn}
 use Rattle.bucket.specs.Views.{bucketOf}
-use Rattle.table.specs.Shapes.{rowsIn}
+use Rattle.shapes.specs.Shapes.{rowsIn}
 use Rattle.answer.proofs.Said.{said}
 use Rattle.model.specs.Calls.{holding}
 use Rattle.model.specs.Sound.{bucketAt, ownCounts}
@@ -32,7 +32,7 @@ use Rattle.header.proofs.bucket_at.Reads as bucket-at-reads
 use Rattle.header.proofs.full_at.Reads as full-at-reads
 use Rattle.increment.proofs.put_totals.Reads as put-totals-reads
 use Rattle.moves.proofs.move_first.Reads as move-first-reads
-use Rattle.table.proofs.Shape.of.Reads as of-reads
+use Rattle.shapes.proofs.Shape.of.Reads as of-reads
 
 bucket-at-requires : tie.Need-bucket-at-requires
 bucket-at-requires c κs =

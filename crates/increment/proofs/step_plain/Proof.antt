@@ -2,7 +2,7 @@ use Rattle.increment.proofs.Writing.{inside, lies, raises, stays, stays
 use Rattle.header.proofs.Places.{open-good, open-known, open-limits}
 use Rattle.bucket.specs.Raise.{RaisesIn, Stays}
 use Rattle.bucket.specs.Views.{bucketIn}
-use Rattle.table.specs.Shapes.{rowsIn}
+use Rattle.shapes.specs.Shapes.{rowsIn}
 use Rattle.answer.proofs.Said.{said}
 use Rattle.model.specs.Calls.{holding}
 use Rattle.model.specs.Sound.{bucketAt, ownCounts}
@@ -23,7 +23,7 @@ use Rattle.bucket.proofs.Bucket.step_first.Reads as step-first-reads
 use Rattle.header.proofs.bucket_at.Reads as bucket-at-reads
 use Rattle.increment.proofs.put_totals.Reads as put-totals-reads
 use Rattle.increment.proofs.step_carry.Reads as step-carry-reads
-use Rattle.table.proofs.Shape.of.Reads as of-reads
+use Rattle.shapes.proofs.Shape.of.Reads as of-reads
 
 shr-if1 : tie.Need-shr-if1
 shr-if1 c = let s = c .before .before in omega (arith, open-known (s .args .words .now) (s .args .v) (s .pre .0 .header) .width-high)
@@ -66,9 +66,11 @@ step-first-requires c κs =
     let z = c .before .before .of .result in
     let es = c .before .before .of .ensures in
     let at = c .bucket-at .result in
-    let q = c .bucket-at .ensures in
-    (inside ws v i a n r z es at q, subst (λ (b : model.Bucket). RaisesIn z b a n) (sym (lies ws v i a n r z es at q)) (raises ws v i a n r z es (s .pre .2)),
-    subst (λ (b : model.Bucket). Stays z b a n) (sym (lies ws v i a n r z es at q)) (stays ws v i a n r z es (s .pre .2) (s .args .was) (s .pre .1) (c .before .before .before .if1 .taken)))
+    let q = c .bucket-at .ensures in (
+      inside ws v i a n r z es at q,
+      subst (λ (b : model.Bucket). RaisesIn z b a n) (sym (lies ws v i a n r z es at q)) (raises ws v i a n r z es (s .pre .2)),
+      subst (λ (b : model.Bucket). Stays z b a n) (sym (lies ws v i a n r z es at q)) (stays ws v i a n r z es (s .pre .2) (s .args .was) (s .pre .1) (c .before .before .before .if1 .taken)),
+    )
 
 put-totals-requires : tie.Need-put-totals-requires
 put-totals-requires c κs =

@@ -9,7 +9,7 @@ use Rattle.layout.proofs.limits.Lts as lts
 use Rattle.answer.proofs.Answer.done.Reads as done-reads
 use Rattle.answer.proofs.Answer.refused.Reads as refused-reads
 use Rattle.layout.proofs.Wall.width_asked.Reads as width-asked-reads
-use Rattle.table.proofs.counter_bits.Reads as counter-bits-reads
+use Rattle.shapes.proofs.counter_bits.Reads as counter-bits-reads
 
 -- src/lib.rt:189:9
 refused-requires : tie.Need-refused-requires

@@ -32,7 +32,7 @@ loop-holds c = let s = c .before in let a = s .args in walk (a .words .now) (a .
 
 -- src/judge.rt:73:17
 returns : tie.Need-returns Inv-loop μ-loop
-returns c = 
+returns c =
     let l = c .before .before .before .loop in
     let a = c .before .before .before .before .before .args in
     judge-high (l .left) (a .words .now) (l .at) (l .marks) (l .entries) (l .widths) (ones (l .m)) (l .weight) (l .sum) (l .inv .some) (ones-none (l .m) (c .before .if1 .taken)) (c .if2 .taken) ∙ l .inv .same
@@ -43,7 +43,7 @@ judge-empty-requires c κs = search needs
 
 -- src/judge.rt:75:13
 returns-2 : tie.Need-returns-2 Inv-loop μ-loop
-returns-2 c = 
+returns-2 c =
     let l = c .before .before .before .before .loop in
     let a = c .before .before .before .before .before .before .args in
     c .judge-empty .ensures ∙ judge-none (l .left) (a .words .now) (l .at) (l .marks) (l .entries) (l .widths) (ones (l .m)) (l .weight) (l .sum) (l .inv .some) (ones-none (l .m) (c .before .before .if1 .taken)) (omega (arith, c .before .if2 .left)) ∙ l .inv .same
@@ -54,14 +54,14 @@ count-requires c κs = search needs
 
 -- src/judge.rt:81:13
 returns-3 : tie.Need-returns-3 Inv-loop μ-loop
-returns-3 c = 
+returns-3 c =
     let l = c .before .before .before .before .loop in
     let a = c .before .before .before .before .before .before .args in
     judge-crowd (a .words .now) (l .at) (l .marks) (l .entries) (l .widths) (ones (l .m)) (l .weight) (l .sum) (l .left) (l .inv .some) (rw (← c .before .count .ensures .0) (c .if3 .taken)) ∙ l .inv .same
 
 -- src/judge.rt:83:21
 pow2-requires : tie.Need-pow2-requires Inv-loop μ-loop
-pow2-requires c κs = 
+pow2-requires c κs =
     let l = c .before .before .before .before .loop in
     let a = c .before .before .before .before .before .before .args in
     here (l .inv) (c .before .before .before .loop-test .taken) .3
@@ -72,14 +72,14 @@ rem-m c = search needs
 
 -- src/judge.rt:84:12
 pow2-requires-2 : tie.Need-pow2-requires-2 Inv-loop μ-loop
-pow2-requires-2 c κs = 
+pow2-requires-2 c κs =
     let l = c .before .before .before .before .before .loop in
     let a = c .before .before .before .before .before .before .before .args in
     omega (arith, here (l .inv) (c .before .before .before .before .loop-test .taken) .3, c .before .if3 .left)
 
 -- src/judge.rt:85:13
 returns-4 : tie.Need-returns-4 Inv-loop μ-loop
-returns-4 c = 
+returns-4 c =
     let l = c .before .before .before .before .before .before .before .loop in
     let a = c .before .before .before .before .before .before .before .before .before .args in
     judge-marks (a .words .now) (l .at) (l .marks) (l .entries) (l .widths) (ones (l .m)) (l .weight) (l .sum) (l .left) (c .before .before .before .before .before .before .loop-test .taken) (rw (← c .before .before .before .before .count .ensures .0) (omega (arith, c .before .before .before .if3 .left)))
@@ -95,7 +95,7 @@ shared-slice-read-judge-level c = search needs
 
 -- src/judge.rt:87:34
 judge-level-requires : tie.Need-judge-level-requires Inv-loop μ-loop
-judge-level-requires c κs = 
+judge-level-requires c κs =
     let l = c .before .before .before .before .before .before .before .before .loop in
     let a = c .before .before .before .before .before .before .before .before .before .before .args in
     let b = here (l .inv) (c .before .before .before .before .before .before .before .loop-test .taken) in
@@ -111,7 +111,7 @@ enum-told c = search needs
 
 -- src/judge.rt:88:13
 returns-5 : tie.Need-returns-5 Inv-loop μ-loop
-returns-5 c = 
+returns-5 c =
     let l = c .before .before .before .before .before .before .before .before .before .before .before .loop in
     let a = c .before .before .before .before .before .before .before .before .before .before .before .before .before .args in
     judge-stop (a .words .now) (l .at) (l .marks) (l .entries) (l .widths) (ones (l .m)) (l .weight) (l .sum) (l .left) (c .before .before .before .before .before .before .before .before .before .before .loop-test .taken) (rw (← c .before .before .before .before .before .before .before .before .count .ensures .0) (omega (arith, c .before .before .before .before .before .before .before .if3 .left)))
@@ -119,7 +119,7 @@ returns-5 c =
 
 -- src/judge.rt:90:22
 pow2-requires-3 : tie.Need-pow2-requires-3 Inv-loop μ-loop
-pow2-requires-3 c κs = 
+pow2-requires-3 c κs =
     let l = c .before .before .before .before .before .before .before .before .before .before .before .before .loop in
     let a = c .before .before .before .before .before .before .before .before .before .before .before .before .before .before .args in
     omega (arith, here (l .inv) (c .before .before .before .before .before .before .before .before .before .before .before .loop-test .taken) .2)
@@ -156,7 +156,7 @@ add-at c = search needs
 
 -- src/judge.rt:92:17
 shr-marks : tie.Need-shr-marks Inv-loop μ-loop
-shr-marks c = 
+shr-marks c =
     let l = c .before .before .before .before .before .before .before .before .before .before .before .before .before .loop in
     let a = c .before .before .before .before .before .before .before .before .before .before .before .before .before .before .before .args in
     here (l .inv) (c .before .before .before .before .before .before .before .before .before .before .before .before .loop-test .taken) .3
@@ -167,7 +167,7 @@ sub-left c = search needs
 
 -- src/judge.rt:96:9
 add-weight : tie.Need-add-weight Inv-loop μ-loop
-add-weight c = 
+add-weight c =
     let l = c .before .before .before .before .before .before .before .before .before .before .before .before .before .loop in
     let a = c .before .before .before .before .before .before .before .before .before .before .before .before .before .before .before .args in
     omega (arith, here (l .inv) (c .before .before .before .before .before .before .before .before .before .before .before .before .loop-test .taken) .2)
@@ -198,7 +198,7 @@ judge-last-requires c κs = let l = c .before .before .before .loop in let b = a
 
 -- src/judge.rt:58:1
 returns-6 : tie.Need-returns-6 Inv-loop μ-loop
-returns-6 c = 
+returns-6 c =
     let l = c .before .before .before .before .loop in
     let a = c .before .before .before .before .before .before .args in
     let e : 1 ≡ l .left = omega (arith, l .inv .some, c .before .before .before .loop-test .left) in

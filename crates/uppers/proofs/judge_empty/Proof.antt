@@ -30,7 +30,7 @@ shared-slice-read-if1 c = search needs
 
 -- src/judge.rt:51:13
 returns : tie.Need-returns Inv-loop μ-loop
-returns c = 
+returns c =
     let l = c .before .before .before .loop in
     let a = c .before .before .before .before .args in
     rw (l .inv .1, zero-some (l .left) (a .words .now) (l .at) (c .before .before .loop-test .taken) (c .if1 .taken))
@@ -49,14 +49,14 @@ loop-less c = search needs
 
 -- src/judge.rt:49:5
 loop-again : tie.Need-loop-again Inv-loop μ-loop
-loop-again c = 
+loop-again c =
     let l = c .before .before .before .loop in
     let a = c .before .before .before .before .args in
     (omega (arith, l .inv .0, c .before .before .loop-test .taken), l .inv .1 ∙ zero-next (l .left) (a .words .now) (l .at) (c .before .before .loop-test .taken) (omega (arith, c .if1 .left)))
 
 -- src/judge.rt:43:1
 returns-2 : tie.Need-returns-2 Inv-loop μ-loop
-returns-2 c = 
+returns-2 c =
     let l = c .before .loop in
     let a = c .before .before .args in
     rw (l .inv .1, zero-end (l .left) (a .words .now) (l .at) (omega (arith, c .loop-test .left)))

@@ -15,13 +15,13 @@ use Rattle.uppers.proofs.judge_level.Reads as judge-level-reads
 
 -- src/judge.rt:107:9
 returns : tie.Need-returns
-returns c = 
+returns c =
     let a = c .before .args in
     last-high (a .cells ∷ []) 0 (a .g) (a .e) (a .ws) (a .n) (a .weight) (a .sum) (c .if1 .taken)
 
 -- src/judge.rt:110:9
 returns-2 : tie.Need-returns-2
-returns-2 c = 
+returns-2 c =
     let a = c .before .before .args in
     judge-crowd (a .cells ∷ []) 0 (a .g) (a .e) (a .ws) (a .n) (a .weight) (a .sum) 1 (omega arith) (c .if2 .taken)
 
@@ -39,7 +39,7 @@ enum-told c = search needs
 
 -- src/judge.rt:113:9
 returns-3 : tie.Need-returns-3
-returns-3 c = 
+returns-3 c =
     let a = c .before .before .before .before .before .args in
     last-stop (a .cells ∷ []) 0 (a .g) (a .e) (a .ws) (a .n) (a .weight) (a .sum) (omega arith) (omega arith) (sym (c .before .before .judge-level .ensures) ∙ c .enum-told .given .1)
 
@@ -66,7 +66,7 @@ add-t13 c = omega (arith, small c)
 
 -- src/judge.rt:102:1
 returns-4 : tie.Need-returns-4
-returns-4 c = 
+returns-4 c =
     let a = c .before .before .before .before .before .before .before .args in
     rw (c .pow2 .ensures .0) (last-done (a .cells ∷ []) 0 (a .g) (a .e) (a .ws) (a .n) (a .weight) (a .sum) (omega arith) (omega arith) (told c))
 

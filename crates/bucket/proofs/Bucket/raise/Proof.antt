@@ -4,8 +4,8 @@ use Rattle.growth.proofs.Raising.{mark-set}
 use Rattle.growth.specs.Grow.{Comes, Rises}
 use Rattle.growth.specs.Levels.{levelsIn}
 use Rattle.rooms.specs.Growth.{entering, raising}
-use Rattle.table.proofs.Shapes.{facts}
-use Rattle.table.specs.Shapes.{rowsIn}
+use Rattle.shapes.proofs.Shapes.{facts}
+use Rattle.shapes.specs.Shapes.{rowsIn}
 use Rattle.cells.proofs.Crossing.{below-of}
 use Rattle.model.proofs.Lists.{Below}
 use Rattle.model.specs.Packed.{bit, rank, replaced}

@@ -1,8 +1,8 @@
 use Rattle.growth.proofs.Bytes.{ahead-in, said-enter, said-raise}
 use Rattle.bucket.proofs.Stepping.{uppersOf, room-low, room-in, room-on}
 use Rattle.rooms.specs.Growth.{roomToRaise}
-use Rattle.table.proofs.Shapes.{facts}
-use Rattle.table.specs.Shapes.{rowsIn}
+use Rattle.shapes.proofs.Shapes.{facts}
+use Rattle.shapes.specs.Shapes.{rowsIn}
 use lib.ListN.{length}
 use native.Mathlib.Omega.{arith}
 use Prim.Native.Nat.{_/_, _^_}

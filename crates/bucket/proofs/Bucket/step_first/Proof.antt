@@ -1,7 +1,7 @@
 use Rattle.bucket.specs.Raise.{RaisesIn, Stays}
 use Rattle.bucket.specs.Views.{bucketIn}
-use Rattle.table.specs.Shapes.{rowsIn}
-use Rattle.table.specs.declared.Shape.{Shape}
+use Rattle.shapes.specs.Shapes.{rowsIn}
+use Rattle.shapes.specs.declared.Shape.{Shape}
 use Rattle.model.specs.Calls.{holding}
 use Rattle.model.specs.Sound.{ownCounts}
 use Rattle.model.specs.Walls.{bucketWords}

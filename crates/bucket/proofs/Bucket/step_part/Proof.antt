@@ -2,8 +2,8 @@ use Rattle.bucket.proofs.Stepping.{firstOf, held-stay}
 use Rattle.bucket.proofs.Stored.{first-fits, take-replaced}
 use Rattle.bucket.specs.Raise.{Raises, RaisesIn, Stays}
 use Rattle.bucket.specs.Views.{bucketOf}
-use Rattle.table.proofs.Shapes.{facts}
-use Rattle.table.specs.Shapes.{rowsIn}
+use Rattle.shapes.proofs.Shapes.{facts}
+use Rattle.shapes.specs.Shapes.{rowsIn}
 use Rattle.cells.proofs.Crossing.{below-of}
 use Rattle.model.proofs.Lists.{Below}
 use Rattle.model.specs.Calls.{holding}

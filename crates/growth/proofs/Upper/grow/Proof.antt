@@ -13,8 +13,8 @@ use Rattle.growth.proofs.Upper.put_in.Reads as put-in-reads
 use Rattle.growth.proofs.Upper.shift.Reads as shift-reads
 use Rattle.packed.proofs.pow2.Reads as pow2-reads
 use Rattle.packed.proofs.rank.Reads as rank-reads
-use Rattle.table.proofs.Shape.entries_at.Reads as entries-at-reads
-use Rattle.table.proofs.Shape.width_at.Reads as width-at-reads
+use Rattle.shapes.proofs.Shape.entries_at.Reads as entries-at-reads
+use Rattle.shapes.proofs.Shape.width_at.Reads as width-at-reads
 
 abbrev Inv-loop : tie.InvT-loop
 Inv-loop shape levels j0 off0 a0 v0 b₀ left₀ j₀ off₀ a₀ v₀ b left j off a v = Going shape left₀ j₀ off₀ b₀ a₀ v₀ left j off b a v

@@ -15,8 +15,8 @@ use Rattle.packed.proofs.bit.Reads as bit-reads
 use Rattle.packed.proofs.pow2.Reads as pow2-reads
 use Rattle.packed.proofs.rank.Reads as rank-reads
 use Rattle.packed.proofs.set_mark.Reads as set-mark-reads
-use Rattle.table.proofs.Shape.entries_at.Reads as entries-at-reads
-use Rattle.table.proofs.Shape.width_at.Reads as width-at-reads
+use Rattle.shapes.proofs.Shape.entries_at.Reads as entries-at-reads
+use Rattle.shapes.proofs.Shape.width_at.Reads as width-at-reads
 
 abbrev Inv-loop : tie.InvT-loop
 Inv-loop shape a0 v0 b₀ left₀ j₀ off₀ a₀ v₀ b left j off a v = Climbing shape left₀ j₀ off₀ b₀ a₀ v₀ left j off b a v
