@@ -99,7 +99,7 @@ impl Bucket {
         self
     }
 
-    // The step of a count whose part in level 1 alone changes: the bucket is taken out, stepped and stored. `step_first` shows what this asks.
+    // The step of a count whose part in level 1 alone changes: the bucket is taken out, stepped and stored. `step_first` shows what these ask.
     fn step_part(words: &mut [u64], at: usize, shape: Shape, place: u64, value: u64)
         requires { ⌜ (at + bucketSize (shape .width) (rowsIn shape) ≤ length (now words)) × RaisesIn shape (bucketIn shape (now words) at) place value × Stays shape (bucketIn shape (now words) at) place value ⌝ }
         ensures { λ _. ⌜ now (words .exit) ≡ splice (now (words .entry)) at (bucketWords (holding (shape .width) (rowsIn shape) (set (ownCounts (shape .width) (rowsIn shape) (bucketIn shape (now (words .entry)) at)) place value))) ⌝ }
@@ -111,19 +111,29 @@ impl Bucket {
             .store(words, at, shape);
     }
 
-    // The same. The default width has its own copy, which the compiler unrolls. Who judged the bucket shows what this asks.
+    // The same at the default width, a copy of its own that the compiler unrolls.
+    fn step_default(words: &mut [u64], at: usize, shape: Shape, place: u64, value: u64)
+        requires { ⌜ (at + bucketSize (shape .width) (rowsIn shape) ≤ length (now words)) × RaisesIn shape (bucketIn shape (now words) at) place value × Stays shape (bucketIn shape (now words) at) place value × (shape .width ≡ 7) ⌝ }
+        ensures { λ _. ⌜ now (words .exit) ≡ splice (now (words .entry)) at (bucketWords (holding (shape .width) (rowsIn shape) (set (ownCounts (shape .width) (rowsIn shape) (bucketIn shape (now (words .entry)) at)) place value))) ⌝ }
+    {
+        let seven = Shape {
+            uppers: shape.uppers,
+            width: 7,
+            entries: shape.entries,
+            widths: shape.widths,
+        };
+        Bucket::take(words, at, seven)
+            .put(7, place, value % 128)
+            .store(words, at, seven);
+    }
+
+    // Who judged the bucket shows what this asks.
     pub fn step_first(words: &mut [u64], at: usize, shape: Shape, place: u64, value: u64)
         requires { ⌜ (at + bucketSize (shape .width) (rowsIn shape) ≤ length (now words)) × RaisesIn shape (bucketIn shape (now words) at) place value × Stays shape (bucketIn shape (now words) at) place value ⌝ }
         ensures { λ _. ⌜ now (words .exit) ≡ splice (now (words .entry)) at (bucketWords (holding (shape .width) (rowsIn shape) (set (ownCounts (shape .width) (rowsIn shape) (bucketIn shape (now (words .entry)) at)) place value))) ⌝ }
     {
         if shape.width == 7 {
-            let default = Shape {
-                uppers: shape.uppers,
-                width: 7,
-                entries: shape.entries,
-                widths: shape.widths,
-            };
-            Bucket::step_part(words, at, default, place, value);
+            Bucket::step_default(words, at, shape, place, value);
             return;
         }
         Bucket::step_part(words, at, shape, place, value);

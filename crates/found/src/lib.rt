@@ -2,7 +2,8 @@
 use layout::Wall;
 use uppers::Judged;
 ghost use mathlib.Core.Path.{_≡_};
-ghost use Prim.Native.Nat.{_+_, _*_, _-_, _/_, _<_, _^_};
+ghost use Prim.Native.Nat.{_/_, _≤_, _<_, _^_};
+ghost use lib.Dec.{T};
 ghost use lib.ListN.{getD};
 ghost use Rattle.model.specs.Lists.{sum};
 ghost use Rattle.model.specs.Walls.{Bucket, bucketsIn, parse};
@@ -21,8 +22,9 @@ pub fn packed_word(words: &[u64], v: Wall, i: u64) -> u64
     words[last]
 }
 
-// A bucket that has more than marks in its packed word: the flag and a number in use, or it is unsound. `read` and `weigh` show that it has.
-fn judge_flagged(words: &[u64], v: Wall, i: u64, packed: u64) -> Judged
+// A bucket that has more than marks in its packed word: the flag and a number in use, or it is unsound. With it, the sum of its counts.
+// Its callers show that it has more.
+pub fn judge_flagged(words: &[u64], v: Wall, i: u64, packed: u64) -> Judged
     requires { ⌜ Open (now words) v × (i < bucketsIn (headerOf v)) × (packed ≡ bucketAt (parse (now words)) i .packed) × (0 < packed / 2 ^ 40) ⌝ }
     ensures { λ r. ⌜ r ≡ verdict (soundAt (parse (now (words .entry))) i) (sum (countsAt (parse (now (words .entry))) i)) ⌝ }
 {
@@ -44,17 +46,14 @@ fn judge_flagged(words: &[u64], v: Wall, i: u64, packed: u64) -> Judged
     )
 }
 
-// The count at a place of such a bucket. `read` shows what this asks.
-fn read_flagged(words: &[u64], v: Wall, i: u64, place: u64, packed: u64) -> Judged
-    requires { ⌜ Open (now words) v × (i < bucketsIn (headerOf v)) × (packed ≡ bucketAt (parse (now words)) i .packed) × (0 < packed / 2 ^ 40) × (place < 64) ⌝ }
-    ensures { λ r. ⌜ r ≡ verdict (soundAt (parse (now (words .entry))) i) (getD (countsAt (parse (now (words .entry))) i) place 0) ⌝ }
+// The count at a place of such a bucket, which its caller found sound.
+pub fn count_flagged(words: &[u64], v: Wall, i: u64, place: u64, packed: u64) -> u64
+    requires { ⌜ Open (now words) v × (i < bucketsIn (headerOf v)) × (packed ≡ bucketAt (parse (now words)) i .packed) × (0 < packed / 2 ^ 40) × T (soundAt (parse (now words)) i) × (place < 64) ⌝ }
+    ensures { λ r. ⌜ r ≡ getD (countsAt (parse (now (words .entry))) i) place 0 ⌝ }
 {
-    let Judged::Sound(_) = judge_flagged(words, v, i, packed) else {
-        return Judged::Unsound;
-    };
     let at = header::bucket_at(v, i);
     let f = header::full_at(v, packed >> 48);
-    Judged::Sound(fulls::count(
+    fulls::count(
         words,
         at,
         place,
@@ -63,18 +62,14 @@ fn read_flagged(words: &[u64], v: Wall, i: u64, place: u64, packed: u64) -> Judg
         shapes::entries_of(v.shape),
         shapes::widths_of(v.shape),
         f,
-    ))
+    )
 }
 
-// The count at a place, if the bucket is sound.
-pub fn read(words: &[u64], v: Wall, i: u64, place: u64) -> Judged
-    requires { ⌜ Open (now words) v × (i < bucketsIn (headerOf v)) × (place < 64) ⌝ }
+// The count at a place of a bucket that has nothing but marks in its packed word, if it is sound. Its callers show that it has nothing else.
+pub fn read_plain(words: &[u64], v: Wall, i: u64, place: u64) -> Judged
+    requires { ⌜ Open (now words) v × (i < bucketsIn (headerOf v)) × (bucketAt (parse (now words)) i .packed / 2 ^ 40 ≤ 0) × (place < 64) ⌝ }
     ensures { λ r. ⌜ r ≡ verdict (soundAt (parse (now (words .entry))) i) (getD (countsAt (parse (now (words .entry))) i) place 0) ⌝ }
 {
-    let packed = packed_word(words, v, i);
-    if 0 < packed >> 40 {
-        return read_flagged(words, v, i, place, packed);
-    }
     let at = header::bucket_at(v, i);
     let uppers = v.shape - 1;
     let e = shapes::entries_of(v.shape);
@@ -83,6 +78,21 @@ pub fn read(words: &[u64], v: Wall, i: u64, place: u64) -> Judged
         return Judged::Unsound;
     }
     Judged::Sound(plain::count(words, at, place, v.width, uppers, e, ws))
+}
+
+// The count at a place, if the bucket is sound.
+pub fn read(words: &[u64], v: Wall, i: u64, place: u64) -> Judged
+    requires { ⌜ Open (now words) v × (i < bucketsIn (headerOf v)) × (place < 64) ⌝ }
+    ensures { λ r. ⌜ r ≡ verdict (soundAt (parse (now (words .entry))) i) (getD (countsAt (parse (now (words .entry))) i) place 0) ⌝ }
+{
+    let packed = packed_word(words, v, i);
+    if packed >> 40 == 0 {
+        return read_plain(words, v, i, place);
+    }
+    let Judged::Sound(_) = judge_flagged(words, v, i, packed) else {
+        return Judged::Unsound;
+    };
+    Judged::Sound(count_flagged(words, v, i, place, packed))
 }
 
 // The sum of its counts, if the bucket is sound.

@@ -12,13 +12,13 @@ use Rattle.model.specs.Lists.{byMark, choose, splice}
 use Rattle.model.specs.Packed.{joinFields}
 use Rattle.model.specs.Shapes.{rowsOf, counterBits, bucketSize}
 use Rattle.model.specs.Levels.{crowded}
-use Rattle.model.specs.Walls.{Header, Bucket, bucketsIn, bucketLength, wordAt, fullFields, bucketWords, fullWords, flatten, parse, emptyFull}
+use Rattle.model.specs.Walls.{Header, Bucket, bucketsIn, bucketLength, countEnd, wordAt, fullFields, bucketWords, fullWords, flatten, parse, emptyFull}
 use Rattle.model.specs.Sound.{upperMarks, packedWord, flag, fullNumber, bucketAt, ownAt, fullFor, countsAt, ownCounts, soundAt}
 use Rattle.model.specs.Calls.{outcome, holding, overflowed, moveIn, noRoom, overflows, step}
 use Rattle.model.proofs.Steps.{eqb-false}
 use Rattle.model.proofs.Headers.{eq-eqb}
 use Rattle.model.proofs.Crowding.{T-true}
-use Rattle.model.proofs.Buckets.{SoundB, bucket-facts, sound-levels, counts-none, length-own, flag-le}
+use Rattle.model.proofs.Buckets.{SoundB, bucket-facts, sound-levels, counts-none, length-own}
 use Rattle.model.proofs.Written.{words-held, words-over, words-moved}
 use Rattle.model.specs.Shapes.{allRows}
 use Rattle.model.specs.Sound.{levelsOf}
@@ -36,6 +36,7 @@ use Rattle.moves.specs.Full.{fullAt}
 use Rattle.header.specs.Headers.{Known, Open}
 use Rattle.header.proofs.Opening.{known-valid}
 use Rattle.header.proofs.Places.{counter-47, open-good, open-known, open-limits, open-header, bucket-within, full-within, full-here, shape-size, taken}
+use Rattle.found.proofs.Here.{sound-flag}
 use Rattle.increment.specs.Step.{Ready, stepIn}
 
 and-no : (a : Bool) (m n : ℕ) → (m ≡ n → ⊥) → (a && eqb m n) ≡ false
@@ -53,14 +54,17 @@ packed-plain x f s n =
     zero-of : (y : ℕ) → y % 2 ≡ 0 → y / 2 % 128 ≡ 0 → y / 256 ≡ 0 → y ≡ 0
     zero-of y f s n = omega arith
 
--- the flag is one bit
-pub flag-one : (b : Bucket) → (flag b ≡ 0 → ⊥) → flag b ≡ 1
-flag-one b f = go (flag b) (flag-le b) f
-  where
-    go : (m : ℕ) → m ≤ 1 → (m ≡ 0 → ⊥) → m ≡ 1
-    go zero l f = absurd (f refl)
-    go (suc zero) l f = refl
-    go (suc (suc m)) l f = absurd (omega arith)
+-- the bucket was found sound, and its count at the place is m
+pub ready : (ws : List ℕ) (v : Wall) (i a m : ℕ) → Open ws v → T (soundAt (parse ws) i) → i < bucketsIn (headerOf v) → a < 64 → m ≡ getD (countsAt (parse ws) i) a 0
+    → getD (countsAt (parse ws) i) a 0 + 1 < countEnd (headerOf v) → Ready ws v i a (m + 1)
+ready ws v i a m o t h k n f = record {
+  header = o;
+  sound = t;
+  bucket = h;
+  place = k;
+  larger = omega arith;
+  fits = subst (λ x. x + 1 < countEnd (headerOf v)) (sym n) f;
+}
 
 -- a shape of the table fits
 table-fits : (v : Wall) → Known v → Fit (shapeOf (v .shape) (v .width))
@@ -92,6 +96,12 @@ module _ (ws : List ℕ) (v : Wall) (i a c : ℕ) (r : Ready ws v i a c) where
 
   pub number-used : flag b ≡ 1 → fullNumber b < v .used
   number-used e = subst (λ u. fullNumber b < u) (sym used-at) (ltb→lt (fullNumber b) (parse ws .header .used) (subst (λ m. T (byMark m (eqb (fullNumber b) 0) (ltb (fullNumber b) (parse ws .header .used)))) e (facts .number)))
+
+  -- more than marks in the packed word of a sound bucket: the flag
+  pub flag-here : (x : ℕ) → x ≡ b .packed → 0 < x / 2 ^ 40 → flag b ≡ 1
+  flag-here x q l =
+      let e : x / 2 ^ 40 % 256 ≡ 1 = sound-flag ws v o i (r .bucket) x q l (r .sound) .0 in
+      ap (λ y. y / 2 ^ 40 % 2) (sym q) ∙ omega arith
 
   -- without the flag the counts are the bucket's own
   plain-counts : flag b ≡ 0 → countsAt (parse ws) i ≡ ownAt (parse ws) i

@@ -10,10 +10,12 @@ ghost use Prim.Native.Nat.{_/_, _≤_, _<_, _^_};
 ghost use lib.ListN.{getD, length, set};
 ghost use Rattle.answer.specs.Answers.{outcomeOf};
 ghost use Rattle.model.specs.Packed.{joinFields};
-ghost use Rattle.model.specs.Walls.{fullFields, parse};
+ghost use Rattle.model.specs.Walls.{bucketsIn, fullFields, parse};
 ghost use Rattle.model.specs.Sound.{bucketAt, countsAt, flag};
 ghost use Rattle.model.specs.Calls as model;
-ghost use Rattle.increment.specs.Step.{Ready, stepIn};
+ghost use Rattle.layout.specs.Views.{headerOf};
+ghost use Rattle.header.specs.Headers.{Open};
+ghost use Rattle.increment.specs.Step.{Ready, oneMore, stepIn};
 
 // The total and U in words 2 and 3. A good header shows what this asks.
 fn put_totals(words: &mut [u64], v: Wall, total: u64, used: u64)
@@ -47,7 +49,7 @@ fn step_carry(words: &mut [u64], v: Wall, i: u64, at: u64, count: u64, total: u6
     Answer::done(count)
 }
 
-// The same where the count may carry or not: `was` is the count before. `step` shows what this asks.
+// The same where the count may carry or not: `was` is the count before. `one_more_plain` shows what this asks.
 fn step_plain(
     words: &mut [u64],
     v: Wall,
@@ -69,17 +71,34 @@ fn step_plain(
     step_carry(words, v, i, at, count, total)
 }
 
-// Place `at` of bucket i comes from a count to a larger one. Judging the bucket shows what this asks.
-fn step(words: &mut [u64], v: Wall, i: u64, at: u64, was: u64, count: u64, total: u64) -> Answer
-    requires { ⌜ Ready (now words) v i at count × (was ≡ getD (countsAt (parse (now words)) i) at 0) ⌝ }
-    ensures { λ r. ⌜ outcomeOf r (now (words .exit)) ≡ stepIn (now (words .entry)) i at count total ⌝ }
+// One more at a place of a bucket that has nothing but marks in its packed word. `increment` shows what this asks.
+fn one_more_plain(words: &mut [u64], v: Wall, i: u64, at: u64) -> Answer
+    requires { ⌜ Open (now words) v × (i < bucketsIn (headerOf v)) × (at < 64) × (bucketAt (parse (now words)) i .packed / 2 ^ 40 ≤ 0) ⌝ }
+    ensures { λ r. ⌜ outcomeOf r (now (words .exit)) ≡ oneMore (now (words .entry)) i at ⌝ }
 {
-    let packed = found::packed_word(words, v, i);
-    if (packed >> 40) % 2 == 0 {
-        return step_plain(words, v, i, at, was, count, total);
+    let Judged::Sound(was) = found::read_plain(words, v, i, at) else {
+        return Answer::refused(9);
+    };
+    if v.total == v.limit {
+        return Answer::refused(10);
     }
+    step_plain(words, v, i, at, was, was + 1, v.total + 1)
+}
+
+// The same of a bucket that has more: its full-size bucket holds the count. `increment` shows what this asks.
+fn one_more_flagged(words: &mut [u64], v: Wall, i: u64, at: u64, packed: u64) -> Answer
+    requires { ⌜ Open (now words) v × (i < bucketsIn (headerOf v)) × (at < 64) × (packed ≡ bucketAt (parse (now words)) i .packed) × (0 < packed / 2 ^ 40) ⌝ }
+    ensures { λ r. ⌜ outcomeOf r (now (words .exit)) ≡ oneMore (now (words .entry)) i at ⌝ }
+{
+    let Judged::Sound(_) = found::judge_flagged(words, v, i, packed) else {
+        return Answer::refused(9);
+    };
+    if v.total == v.limit {
+        return Answer::refused(10);
+    }
+    let count = found::count_flagged(words, v, i, at, packed) + 1;
     moves::move_in(words, header::full_at(v, packed >> 48), at, count);
-    put_totals(words, v, total, v.used);
+    put_totals(words, v, v.total + 1, v.used);
     Answer::done(count)
 }
 
@@ -94,11 +113,9 @@ pub fn increment(words: &mut [u64], flow: u64) -> Answer
         return Answer::refused(8);
     }
     let s = slot::reversed(v.bits, flow);
-    let Judged::Sound(was) = found::read(words, v, s / 64, s % 64) else {
-        return Answer::refused(9);
-    };
-    if v.total == v.limit {
-        return Answer::refused(10);
+    let packed = found::packed_word(words, v, s / 64);
+    if packed >> 40 == 0 {
+        return one_more_plain(words, v, s / 64, s % 64);
     }
-    step(words, v, s / 64, s % 64, was, was + 1, v.total + 1)
+    one_more_flagged(words, v, s / 64, s % 64, packed)
 }

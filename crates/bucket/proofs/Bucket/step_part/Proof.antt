@@ -1,34 +1,18 @@
-use Rattle.bucket.proofs.Stepping.{firstOf, held-stay}
-use Rattle.bucket.proofs.Stored.{first-fits, take-replaced}
-use Rattle.bucket.specs.Raise.{Raises, RaisesIn, Stays}
-use Rattle.bucket.specs.Views.{bucketOf}
-use Rattle.shapes.proofs.Shapes.{facts}
-use Rattle.shapes.specs.Shapes.{rowsIn}
-use Rattle.cells.proofs.Crossing.{below-of}
-use Rattle.model.proofs.Lists.{Below}
-use Rattle.model.specs.Calls.{holding}
-use Rattle.model.specs.Sound.{ownCounts}
-use Rattle.model.specs.Walls as model
-use Rattle.model.specs.Walls.{bucketWords}
-use Rattle.model.specs.Packed.{replaced}
-use Rattle.model.specs.Lists.{splice}
-use mir.Syntax.{w64}
-use mir.Val.{Fits}
-use lib.Pow.{pow-pos}
-use lib.ListN.{length, getD, set}
-use native.Mathlib.Omega.{arith}
-use native.Mathlib.Nat.{mod-lt}
-use Prim.Native.Nat.{ℕ, _%_, _^_}
-use mathlib.Core.Path.{_≡_, sym, ap, _∙_, subst}
 use borrow.Author.Needs.{needs}
+use mathlib.Core.Path.{_≡_, ap, _∙_}
+use Prim.Native.Nat.{ℕ, _%_, _^_}
+use native.Mathlib.Nat.{mod-lt}
+use native.Mathlib.Omega.{arith}
+use lib.ListN.{length, getD}
+use lib.Pow.{pow-pos}
+use mir.Val.{Fits}
+use mir.Syntax.{w64}
+use Rattle.model.proofs.Lists.{Below}
+use Rattle.cells.proofs.Crossing.{below-of}
+use Rattle.shapes.proofs.Shapes.{facts}
+use Rattle.bucket.proofs.Parts.{part-stored}
 use Rattle.bucket.proofs.Bucket.step_part.Statement.{statement}
 use Rattle.bucket.proofs.Bucket.step_part.Tie as tie
-use Rattle.bucket.proofs.Bucket.step_part.Reads as reads
-use Rattle.bucket.proofs.Bucket.step_part.Lts as lts
-use Rattle.bucket.proofs.Bucket.put.Reads as put-reads
-use Rattle.bucket.proofs.Bucket.store.Reads as store-reads
-use Rattle.bucket.proofs.Bucket.take.Reads as take-reads
-use Rattle.packed.proofs.pow2.Reads as pow2-reads
 
 below : (c : tie.After-take) → Below (2 ^ 64) (c .take .result .first)
 below c = below-of (2 ^ 64) (c .take .result .first) (λ i. each i .fits)
@@ -69,20 +53,11 @@ same-length c = search needs
 returns : tie.Need-returns
 returns c =
     let s = c .before .before .before .before .before .before .before .before .before in
-    let z = s .args .shape in
-    let w : ℕ = z .width in
     let k = c .before .before .before .before .before .take in
     let p = c .before .before .before .before .put in
-    let t = stored (c .before .before .before .before) in
-    let r : Raises z (k .result) (s .args .place) (s .args .value) = subst (λ (b : model.Bucket). RaisesIn z b (s .args .place) (s .args .value)) (sym (k .ensures)) (s .pre .1) in
-    let y : Stays z (bucketOf z (k .result)) (s .args .place) (s .args .value) = subst (λ (b : model.Bucket). Stays z b (s .args .place) (s .args .value)) (sym (k .ensures)) (s .pre .2) in
-    let f : firstOf z (p .result) ≡ replaced w (firstOf z (k .result)) (s .args .place) (s .args .value % 2 ^ w) =
-    take-replaced (k .result .first) (p .result .first) w w (s .args .place) (s .args .value % 2 ^ w) (below (c .before .before .before .before .before)) (t .0)
-    (first-fits w (s .args .place) (r .place)) (mod-lt (s .args .value) (pow-pos w)) (rw (c .before .before .before .before .before .before .before .pow2 .ensures .0) at (p .ensures .first)) in
     c .before .before .store .ensures
-    ∙ ap (λ b. splice (s .args .words .now) (s .args .at) (bucketWords b))
-    (held-stay z (k .result) (four (c .before .before .before .before .before)) (s .args .place) (s .args .value) r (p .result) f (t .0) (t .1) (t .2) (p .ensures .marks) (p .ensures .upper) y
-    ∙ ap (λ (b : model.Bucket). holding w (rowsIn z) (set (ownCounts w (rowsIn z) b) (s .args .place) (s .args .value))) (k .ensures))
+    ∙ part-stored (s .args .shape) (s .args .words .now) (s .args .at) (s .args .place) (s .args .value) (s .args .value % c .before .before .before .before .before .before .before .pow2 .result) (k .result) (p .result)
+    (below (c .before .before .before .before .before)) (four (c .before .before .before .before .before)) (stored (c .before .before .before .before)) (k .ensures) (p .ensures) (ap (λ n. s .args .value % n) (c .before .before .before .before .before .before .before .pow2 .ensures .0)) (s .pre)
 
 pub step-part-spec : {M : Type 1} → statement M
 step-part-spec =
