@@ -93,7 +93,7 @@ fn one_more_flagged(words: &mut [u64], v: Wall, i: u64, at: u64, packed: u64) ->
     let Judged::Sound(_) = found::judge_flagged(words, v, i, packed) else {
         return Answer::refused(9);
     };
-    if v.total == v.limit {
+    if v.limit == v.total {
         return Answer::refused(10);
     }
     let count = found::count_flagged(words, v, i, at, packed) + 1;

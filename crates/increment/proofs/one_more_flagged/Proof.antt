@@ -70,7 +70,7 @@ returns-2 c =
     let y : T (soundAt (parse ws) i) = subst T (sym (said-sound (soundAt (parse ws) i) (sum (countsAt (parse ws) i)) (sym (c .before .before .before .before .before .judge-flagged .ensures) ∙ c .before .before .before .enum-told .given .1) .0)) tt in
     let e = open-header ws v o in
     said (c .refused2 .result) 10 0 ws (c .refused2 .ensures)
-    ∙ at-ten ws i a y (sym (ap (λ (h : Header). h .total) e) ∙ c .before .if1 .taken ∙ ap (λ (h : Header). h .limit) e)
+    ∙ at-ten ws i a y (sym (ap (λ (h : Header). h .total) e) ∙ sym (c .before .if1 .taken) ∙ ap (λ (h : Header). h .limit) e)
 
 count-flagged-requires : tie.Need-count-flagged-requires
 count-flagged-requires c κs =
@@ -92,7 +92,7 @@ add-count c =
     let a = s .args .at in
     let o = s .pre .0 in
     let y : T (soundAt (parse ws) i) = subst T (sym (said-sound (soundAt (parse ws) i) (sum (countsAt (parse ws) i)) (sym (c .before .before .before .before .before .before .judge-flagged .ensures) ∙ c .before .before .before .before .enum-told .given .1) .0)) tt in
-    omega (arith, one-more-fits ws i a y v o (c .before .before .if1 .left), c .count-flagged .ensures, count-end-most ws v o)
+    omega (arith, one-more-fits ws i a y v o (λ q. c .before .before .if1 .left (sym q)), c .count-flagged .ensures, count-end-most ws v o)
 
 full-at-requires : tie.Need-full-at-requires
 full-at-requires c κs =
@@ -104,7 +104,7 @@ full-at-requires c κs =
     let o = s .pre .0 in
     let y : T (soundAt (parse ws) i) = subst T (sym (said-sound (soundAt (parse ws) i) (sum (countsAt (parse ws) i)) (sym (c .before .before .before .before .before .before .before .judge-flagged .ensures) ∙ c .before .before .before .before .before .enum-told .given .1) .0)) tt in
     let n = c .before .count-flagged .ensures in
-    let r = ready ws v i a (c .before .count-flagged .result) o y (s .pre .1) (s .pre .2) n (one-more-fits ws i a y v o (c .before .before .before .if1 .left)) in
+    let r = ready ws v i a (c .before .count-flagged .result) o y (s .pre .1) (s .pre .2) n (one-more-fits ws i a y v o (λ q. c .before .before .before .if1 .left (sym q))) in
     let f : flag (bucketAt (parse ws) i) ≡ 1 = flag-here ws v i a (c .before .count-flagged .result + 1) r (s .args .packed) (s .pre .3) (s .pre .4) in
     let p : s .args .packed / 2 ^ 48 ≡ fullNumber (bucketAt (parse ws) i) = ap (λ x. x / 2 ^ 48) (s .pre .3) in
     let l = open-limits ws v o in
@@ -120,7 +120,7 @@ move-in-requires c κs =
     let o = s .pre .0 in
     let y : T (soundAt (parse ws) i) = subst T (sym (said-sound (soundAt (parse ws) i) (sum (countsAt (parse ws) i)) (sym (c .before .before .before .before .before .before .before .before .judge-flagged .ensures) ∙ c .before .before .before .before .before .before .enum-told .given .1) .0)) tt in
     let n = c .before .before .count-flagged .ensures in
-    let r = ready ws v i a (c .before .before .count-flagged .result) o y (s .pre .1) (s .pre .2) n (one-more-fits ws i a y v o (c .before .before .before .before .if1 .left)) in
+    let r = ready ws v i a (c .before .before .count-flagged .result) o y (s .pre .1) (s .pre .2) n (one-more-fits ws i a y v o (λ q. c .before .before .before .before .if1 .left (sym q))) in
     let f : flag (bucketAt (parse ws) i) ≡ 1 = flag-here ws v i a (c .before .before .count-flagged .result + 1) r (s .args .packed) (s .pre .3) (s .pre .4) in
     let p : s .args .packed / 2 ^ 48 ≡ fullNumber (bucketAt (parse ws) i) = ap (λ x. x / 2 ^ 48) (s .pre .3) in
     (full-inside ws v i a (c .before .before .count-flagged .result + 1) r 0 (c .before .before .before .before .before .before .before .before .before .before .slice-known .given 0 .fits) (c .full-at .result) f (c .full-at .ensures ∙ ap (λ x. 4 + (bucketsIn (headerOf v) * bucketLength (headerOf v) + x * 65)) p), s .pre .2)
@@ -163,14 +163,14 @@ returns-3 c =
     let o = s .pre .0 in
     let y : T (soundAt (parse ws) i) = subst T (sym (said-sound (soundAt (parse ws) i) (sum (countsAt (parse ws) i)) (sym (c .before .before .before .before .before .before .before .before .before .before .before .before .before .before .before .before .before .judge-flagged .ensures) ∙ c .before .before .before .before .before .before .before .before .before .before .before .before .before .before .before .enum-told .given .1) .0)) tt in
     let n = c .before .before .before .before .before .before .before .before .before .before .before .count-flagged .ensures in
-    let r = ready ws v i a (c .before .before .before .before .before .before .before .before .before .before .before .count-flagged .result) o y (s .pre .1) (s .pre .2) n (one-more-fits ws i a y v o (c .before .before .before .before .before .before .before .before .before .before .before .before .before .if1 .left)) in
+    let r = ready ws v i a (c .before .before .before .before .before .before .before .before .before .before .before .count-flagged .result) o y (s .pre .1) (s .pre .2) n (one-more-fits ws i a y v o (λ q. c .before .before .before .before .before .before .before .before .before .before .before .before .before .if1 .left (sym q))) in
     let f : flag (bucketAt (parse ws) i) ≡ 1 = flag-here ws v i a (c .before .before .before .before .before .before .before .before .before .before .before .count-flagged .result + 1) r (s .args .packed) (s .pre .3) (s .pre .4) in
     let p : s .args .packed / 2 ^ 48 ≡ fullNumber (bucketAt (parse ws) i) = ap (λ x. x / 2 ^ 48) (s .pre .3) in
     let e = open-header ws v o in
     said (c .done .result) 0 (c .before .before .before .before .before .before .before .before .before .before .before .count-flagged .result + 1) (c .before .before .before .put-totals .last .0) (c .done .ensures) ∙ ap (λ (x : List ℕ). record { number = 0; value = c .before .before .before .before .before .before .before .before .before .before .before .count-flagged .result + 1; words = x }) (c .before .before .before .put-totals .ensures)
     ∙ step-moved ws v i a (c .before .before .before .before .before .before .before .before .before .before .before .count-flagged .result + 1) r (v .total + 1) (c .before .before .before .before .before .before .before .before .before .before .before .before .before .before .before .before .before .before .before .slice-known .given 0 .fits) (c .before .before .before .before .before .before .before .before .move-in .last .0) (c .before .before .before .before .before .before .before .before .before .full-at .result) f (c .before .before .before .before .before .before .before .before .before .full-at .ensures ∙ ap (λ x. 4 + (bucketsIn (headerOf v) * bucketLength (headerOf v) + x * 65)) p) (c .before .before .before .before .before .before .before .before .move-in .ensures)
     ∙ ap₂ (λ m t. stepIn ws i a (m + 1) (t + 1)) n (ap (λ (h : Header). h .total) e)
-    ∙ at-step ws i a y (λ q. c .before .before .before .before .before .before .before .before .before .before .before .before .before .if1 .left (ap (λ (h : Header). h .total) e ∙ q ∙ sym (ap (λ (h : Header). h .limit) e)))
+    ∙ at-step ws i a y (λ q. c .before .before .before .before .before .before .before .before .before .before .before .before .before .if1 .left (sym (ap (λ (h : Header). h .total) e ∙ q ∙ sym (ap (λ (h : Header). h .limit) e))))
 
 pub one-more-flagged-spec : {M : Type 1} → statement M
 one-more-flagged-spec =
