@@ -22,7 +22,8 @@ use Rattle.layout.specs.declared.Wall as layout
 use Rattle.layout.specs.Views.{headerOf}
 use Rattle.header.specs.Headers.{Open}
 use Rattle.header.proofs.Places.{open-header, open-limits}
-use Rattle.increment.specs.Step.{oneMore, stepIn}
+use Rattle.steps.specs.Step.{stepIn}
+use Rattle.increment.specs.OneMore.{oneMore}
 
 -- a sound bucket's counts are at most the total
 counts-most : (v : Wall) (i a : ℕ) → T (soundAt v i) → getD (countsAt v i) a 0 ≤ v .header .total

@@ -1,6 +1,6 @@
-use Rattle.increment.proofs.Writing.{ready, flag-here, number-used, full-inside, step-moved}
+use Rattle.steps.proofs.Writing.{ready, flag-here, number-used, full-inside, step-moved}
 use Rattle.increment.proofs.Raising.{at-nine, at-ten, at-step, one-more-fits}
-use Rattle.increment.specs.Step.{stepIn}
+use Rattle.steps.specs.Step.{stepIn}
 use Rattle.header.proofs.Places.{open-good, open-known, open-header, open-limits, count-end-most}
 use Rattle.uppers.proofs.Verdicts.{said-sound, said-not}
 use Rattle.answer.proofs.Said.{said}
@@ -24,7 +24,7 @@ use Rattle.answer.proofs.Answer.refused.Reads as refused-reads
 use Rattle.found.proofs.count_flagged.Reads as count-flagged-reads
 use Rattle.found.proofs.judge_flagged.Reads as judge-flagged-reads
 use Rattle.header.proofs.full_at.Reads as full-at-reads
-use Rattle.increment.proofs.put_totals.Reads as put-totals-reads
+use Rattle.steps.proofs.put_totals.Reads as put-totals-reads
 use Rattle.moves.proofs.move_in.Reads as move-in-reads
 
 judge-flagged-requires : tie.Need-judge-flagged-requires

@@ -1,5 +1,5 @@
 use Rattle.increment.proofs.Raising.{at-nine, at-ten, at-step, one-more-fits}
-use Rattle.increment.specs.Step.{stepIn}
+use Rattle.steps.specs.Step.{stepIn}
 use Rattle.header.proofs.Places.{open-header, open-limits, count-end-most}
 use Rattle.uppers.proofs.Verdicts.{said-sound, said-not}
 use Rattle.answer.proofs.Said.{said}
@@ -19,7 +19,7 @@ use Rattle.increment.proofs.one_more_plain.Reads as reads
 use Rattle.increment.proofs.one_more_plain.Lts as lts
 use Rattle.answer.proofs.Answer.refused.Reads as refused-reads
 use Rattle.found.proofs.read_plain.Reads as read-plain-reads
-use Rattle.increment.proofs.step_plain.Reads as step-plain-reads
+use Rattle.steps.proofs.step_plain.Reads as step-plain-reads
 
 read-plain-requires : tie.Need-read-plain-requires
 read-plain-requires c κs = search needs

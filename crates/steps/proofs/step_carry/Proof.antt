@@ -1,4 +1,4 @@
-use Rattle.increment.proofs.Writing.{shape-fits, inside, lies, raises, room-found, none-found, over-of, held-of, step-held, step-twelve, step-over}
+use Rattle.steps.proofs.Writing.{shape-fits, inside, lies, raises, room-found, none-found, over-of, held-of, step-held, step-twelve, step-over}
 use Rattle.header.proofs.Places.{open-good, open-known, open-limits, full-within}
 use Rattle.bucket.specs.Raise.{RaisesIn}
 use Rattle.bucket.specs.Views.{bucketOf}
@@ -17,10 +17,10 @@ use mathlib.Core.List.{List}
 use mathlib.Core.Bool.{not}
 use mathlib.Core.Path.{_≡_, sym, ap, _∙_, subst}
 use borrow.Author.Needs.{needs}
-use Rattle.increment.proofs.step_carry.Statement.{statement}
-use Rattle.increment.proofs.step_carry.Tie as tie
-use Rattle.increment.proofs.step_carry.Reads as reads
-use Rattle.increment.proofs.step_carry.Lts as lts
+use Rattle.steps.proofs.step_carry.Statement.{statement}
+use Rattle.steps.proofs.step_carry.Tie as tie
+use Rattle.steps.proofs.step_carry.Reads as reads
+use Rattle.steps.proofs.step_carry.Lts as lts
 use Rattle.answer.proofs.Answer.done.Reads as done-reads
 use Rattle.answer.proofs.Answer.refused.Reads as refused-reads
 use Rattle.bucket.proofs.Bucket.overflow.Reads as overflow-reads
@@ -30,7 +30,7 @@ use Rattle.bucket.proofs.Bucket.store.Reads as store-reads
 use Rattle.bucket.proofs.Bucket.take.Reads as take-reads
 use Rattle.header.proofs.bucket_at.Reads as bucket-at-reads
 use Rattle.header.proofs.full_at.Reads as full-at-reads
-use Rattle.increment.proofs.put_totals.Reads as put-totals-reads
+use Rattle.steps.proofs.put_totals.Reads as put-totals-reads
 use Rattle.moves.proofs.move_first.Reads as move-first-reads
 use Rattle.shapes.proofs.Shape.of.Reads as of-reads
 

@@ -37,7 +37,7 @@ use Rattle.header.specs.Headers.{Known, Open}
 use Rattle.header.proofs.Opening.{known-valid}
 use Rattle.header.proofs.Places.{counter-47, open-good, open-known, open-limits, open-header, bucket-within, full-within, full-here, shape-size, taken}
 use Rattle.found.proofs.Here.{sound-flag}
-use Rattle.increment.specs.Step.{Ready, stepIn}
+use Rattle.steps.specs.Step.{Ready, stepIn}
 
 and-no : (a : Bool) (m n : ℕ) → (m ≡ n → ⊥) → (a && eqb m n) ≡ false
 and-no true m n z = eqb-false m n z

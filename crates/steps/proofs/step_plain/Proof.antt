@@ -1,4 +1,4 @@
-use Rattle.increment.proofs.Writing.{inside, lies, raises, stays, stays-room, held-of, step-held}
+use Rattle.steps.proofs.Writing.{inside, lies, raises, stays, stays-room, held-of, step-held}
 use Rattle.header.proofs.Places.{open-good, open-known, open-limits}
 use Rattle.bucket.specs.Raise.{RaisesIn, Stays}
 use Rattle.bucket.specs.Views.{bucketIn}
@@ -14,15 +14,15 @@ use Prim.Native.Nat.{ℕ}
 use mathlib.Core.List.{List}
 use mathlib.Core.Path.{_≡_, sym, ap, _∙_, subst}
 use borrow.Author.Needs.{needs}
-use Rattle.increment.proofs.step_plain.Statement.{statement}
-use Rattle.increment.proofs.step_plain.Tie as tie
-use Rattle.increment.proofs.step_plain.Reads as reads
-use Rattle.increment.proofs.step_plain.Lts as lts
+use Rattle.steps.proofs.step_plain.Statement.{statement}
+use Rattle.steps.proofs.step_plain.Tie as tie
+use Rattle.steps.proofs.step_plain.Reads as reads
+use Rattle.steps.proofs.step_plain.Lts as lts
 use Rattle.answer.proofs.Answer.done.Reads as done-reads
 use Rattle.bucket.proofs.Bucket.step_first.Reads as step-first-reads
 use Rattle.header.proofs.bucket_at.Reads as bucket-at-reads
-use Rattle.increment.proofs.put_totals.Reads as put-totals-reads
-use Rattle.increment.proofs.step_carry.Reads as step-carry-reads
+use Rattle.steps.proofs.put_totals.Reads as put-totals-reads
+use Rattle.steps.proofs.step_carry.Reads as step-carry-reads
 use Rattle.shapes.proofs.Shape.of.Reads as of-reads
 
 shr-if1 : tie.Need-shr-if1

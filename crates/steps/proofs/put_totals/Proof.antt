@@ -6,8 +6,8 @@ use lib.ListN.{set}
 use Rattle.model.specs.Packed.{joinFields}
 use Rattle.model.specs.Walls.{fullFields}
 use mathlib.Core.List.{[], _∷_}
-use Rattle.increment.proofs.put_totals.Statement.{statement}
-use Rattle.increment.proofs.put_totals.Tie as tie
+use Rattle.steps.proofs.put_totals.Statement.{statement}
+use Rattle.steps.proofs.put_totals.Tie as tie
 
 slice-write-words : tie.Need-slice-write-words
 slice-write-words c = search needs
