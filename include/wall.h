@@ -8,6 +8,8 @@
  * refused; where several reasons apply, it is the first of them in the order of the enum below. A refusal changes no word, and its value is 0, but for
  * the number of the bucket that comes with wall_check's WALL_UNSOUND. Every argument is judged at its full 64 bits.
  *
+ * Each of the card's calls keeps within 2 KiB of stack; docs/WALL.md has the bytes measured.
+ *
  * Two calls over one wall at the same time are the caller's to prevent, unless both only read.
  */
 #ifndef WALL_H

@@ -3,4 +3,3 @@ pub mod BucketWords
 pub mod Stored
 pub mod Stepping
 pub mod Rule
-pub mod Parts

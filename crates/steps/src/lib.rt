@@ -59,7 +59,7 @@ pub fn step_plain(
 {
     if count >> v.width == was >> v.width {
         let shape = Shape::of(v.shape, v.width);
-        Bucket::step_first(words, header::bucket_at(v, i), shape, at, count);
+        parts::step_first(words, header::bucket_at(v, i), shape, at, count);
         put_totals(words, v, total, v.used);
         return Answer::done(count);
     }

@@ -19,7 +19,7 @@ use Rattle.steps.proofs.step_plain.Tie as tie
 use Rattle.steps.proofs.step_plain.Reads as reads
 use Rattle.steps.proofs.step_plain.Lts as lts
 use Rattle.answer.proofs.Answer.done.Reads as done-reads
-use Rattle.bucket.proofs.Bucket.step_first.Reads as step-first-reads
+use Rattle.parts.proofs.step_first.Reads as step-first-reads
 use Rattle.header.proofs.bucket_at.Reads as bucket-at-reads
 use Rattle.steps.proofs.put_totals.Reads as put-totals-reads
 use Rattle.steps.proofs.step_carry.Reads as step-carry-reads

@@ -10,9 +10,9 @@ use mir.Syntax.{w64}
 use Rattle.model.proofs.Lists.{Below}
 use Rattle.cells.proofs.Crossing.{below-of}
 use Rattle.shapes.proofs.Shapes.{facts}
-use Rattle.bucket.proofs.Parts.{part-stored}
-use Rattle.bucket.proofs.Bucket.step_part.Statement.{statement}
-use Rattle.bucket.proofs.Bucket.step_part.Tie as tie
+use Rattle.parts.proofs.Parts.{part-stored}
+use Rattle.parts.proofs.step_part.Statement.{statement}
+use Rattle.parts.proofs.step_part.Tie as tie
 
 below : (c : tie.After-take) → Below (2 ^ 64) (c .take .result .first)
 below c = below-of (2 ^ 64) (c .take .result .first) (λ i. each i .fits)

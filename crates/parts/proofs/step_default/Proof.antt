@@ -1,4 +1,4 @@
-use Rattle.bucket.proofs.Parts.{left, part-stored, seven, asked-seven}
+use Rattle.parts.proofs.Parts.{left, part-stored, seven, asked-seven}
 use Rattle.shapes.specs.declared.Shape.{Shape}
 use Rattle.cells.proofs.Crossing.{below-of}
 use Rattle.model.proofs.Lists.{Below}
@@ -8,13 +8,13 @@ use lib.ListN.{length, getD}
 use Prim.Native.Nat.{ℕ, _%_, _^_}
 use mathlib.Core.Path.{_≡_, refl, ap, _∙_}
 use borrow.Author.Needs.{needs}
-use Rattle.bucket.proofs.Bucket.step_default.Statement.{statement}
-use Rattle.bucket.proofs.Bucket.step_default.Tie as tie
-use Rattle.bucket.proofs.Bucket.step_default.Reads as reads
-use Rattle.bucket.proofs.Bucket.step_default.Lts as lts
+use Rattle.parts.proofs.step_default.Statement.{statement}
+use Rattle.parts.proofs.step_default.Tie as tie
+use Rattle.parts.proofs.step_default.Reads as reads
+use Rattle.parts.proofs.step_default.Lts as lts
 use Rattle.bucket.proofs.Bucket.put.Reads as put-reads
 use Rattle.bucket.proofs.Bucket.store.Reads as store-reads
 use Rattle.bucket.proofs.Bucket.take.Reads as take-reads
 
 below : (c : tie.After-take) → Below (2 ^ 64) (c .take .result .first)
 below c = below-of (2 ^ 64) (c .take .result .first) (λ i. each i .fits)
