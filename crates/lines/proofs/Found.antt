@@ -13,7 +13,7 @@ use lib.Seq.{drop-cons, drop-length, take-suc}
 use Rattle.model.specs.Lists.{choose, all}
 use Rattle.lines.specs.declared.read.Flow.the-variants.{Number, Bad}
 use Rattle.lines.specs.Transcript.{linesOf, inFront, isDigit, isFlow, valueAfter, valueOf, flowOf}
-use Rattle.lines.specs.Writing.{firstLine, afterLine, Ends}
+use Rattle.lines.specs.Reading.{firstLine, afterLine, Ends}
 
 -- ---- the first line
 

@@ -1,11 +1,10 @@
 -- How long the output is: four bytes for each byte of input, and a last line.
 use mathlib.Core.Logic.{_⊎_, inl, inr}
-use mathlib.Core.Path.{_≡_, refl, ap, _∙_}
+use mathlib.Core.Path.{_≡_, refl}
 use mathlib.Core.Bool.{Bool, true, false, _&&_}
 use mathlib.Core.List.{List, [], _∷_, _++_, map}
-use Prim.Native.Nat.{ℕ, zero, suc, _+_, _-_, _*_, _/_, _%_, _^_, _≤_, _<_}
-use native.Mathlib.Nat.{pow-suc, div-lt-iff-lt-mul, zero-lt-suc, add-zero, add-suc, suc-add, zero-add, eq-zero-or-pos}
-use native.Mathlib.Decide.{decLt}
+use Prim.Native.Nat.{ℕ, suc, _+_, _-_, _*_, _^_, _≤_, _<_}
+use native.Mathlib.Nat.{pow-suc, add-zero, add-suc, suc-add, zero-add, eq-zero-or-pos}
 use native.Mathlib.Omega.{arith}
 use borrow.Author.Tests.{ltb-false, leb-true}
 use lib.Dec.{leb, eqb}
@@ -13,20 +12,12 @@ use lib.ListN.{length, length-append}
 use Rattle.model.specs.Lists.{choose, all}
 use Rattle.model.specs.Walls.{readHeader, wordAt}
 use Rattle.model.specs.Calls.{Outcome, increment}
-use Rattle.lines.specs.Transcript.{digit, digits, inFront, linesOf, isDigit, isFlow, valueAfter, valueOf, answerLine, totalLine, badLine, answers, badInput, tooLong, transcript}
-use Rattle.lines.proofs.Decimals.{one-digit, more-digits}
+use Rattle.texts.specs.Texts.{digits, answerLine, badLine}
+use Rattle.texts.proofs.Lengths.{few-digits, total-short, bad-short, answer-long}
+use Rattle.lines.specs.Transcript.{inFront, linesOf, isDigit, isFlow, valueAfter, valueOf, answers, badInput, tooLong, transcript}
 use Rattle.lines.proofs.Kept.{Small, number-small, done-counted, refused-same}
 
--- ---- digits
-
--- n below 10 ^ (k + 1) has at most k + 1 digits
-pub few-digits : (k n : ℕ) → n < 10 ^ suc k → length (digits n) ≤ suc k
-few-digits zero n h = omega (arith, ap length (one-digit n h))
-few-digits (suc k) n h = by (decLt n 10) (few-digits k (n / 10) (div-lt-iff-lt-mul (zero-lt-suc 9) .1 (rw (pow-suc 10 (suc k)) at h)))
-  where
-    by : Dec (n < 10) → length (digits (n / 10)) ≤ suc k → length (digits n) ≤ suc (suc k)
-    by (yes l) f = omega (arith, ap length (one-digit n l))
-    by (no l) f = omega (arith, ap length (more-digits n (omega arith)) ∙ length-append (digits (n / 10)) (digit (n % 10) ∷ []))
+-- ---- a flow
 
 and-true : (a b : Bool) → a && b ≡ true → (a ≡ true) × (b ≡ true)
 and-true true b e = (refl, e)
@@ -75,19 +66,7 @@ weight-lines (c ∷ s) = by (eqb c 10) (weight-lines s)
     by true h = omega arith
     by false h = weight-front c (linesOf s) (length s) h
 
--- ---- the lines of the output
-
-total-short : (t u : ℕ) → t < 1000 → u < 100000 → length (totalLine t u) ≤ 21
-unfolding totalLine
-total-short t u p q = simp length-append (omega (arith, few-digits 2 t p, few-digits 4 u q))
-
-bad-short : (n : ℕ) → n < 100000 → length (badLine n) ≤ 21
-unfolding badLine
-bad-short n h = simp length-append (omega (arith, few-digits 4 n h))
-
-answer-long : (y n v : ℕ) → length (answerLine y n v) ≡ length (digits y) + (length (digits n) + (length (digits v) + 3))
-unfolding answerLine
-answer-long y n v = simp length-append (omega arith)
+-- ---- an answer
 
 -- the number and the count: `0` and up to three digits, or up to two and `0`
 module _ (ws : List ℕ) (y : ℕ) (s : Small 999 ws) where

@@ -13,11 +13,13 @@ use Rattle.model.specs.Walls.{readHeader}
 use Rattle.model.specs.Calls.{increment}
 use Rattle.answer.specs.declared.Answer.{Answer}
 use Rattle.answer.specs.Answers.{outcomeOf}
+use Rattle.texts.specs.Texts.{answerLine, totalLine, badLine}
+use Rattle.texts.specs.Writing.{Room, Wrote}
+use Rattle.texts.proofs.Texts.{room-first, room-next, and-then}
 use Rattle.lines.specs.declared.read.Flow.the-variants.{Number, Bad}
-use Rattle.lines.specs.Transcript.{linesOf, isFlow, valueOf, flowOf, answerLine, totalLine, badLine, answers, wordsOf, badInput, transcript, wordsAfter}
-use Rattle.lines.specs.Writing.{firstLine, afterLine, Ends, Room, Wrote}
+use Rattle.lines.specs.Transcript.{linesOf, isFlow, valueOf, flowOf, answers, wordsOf, badInput, transcript, wordsAfter}
+use Rattle.lines.specs.Reading.{firstLine, afterLine, Ends}
 use Rattle.lines.proofs.Found.{lines-first}
-use Rattle.lines.proofs.Texts.{room-first, room-next, and-then}
 
 -- ---- one line
 

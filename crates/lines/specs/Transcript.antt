@@ -1,34 +1,15 @@
 -- What the program writes for the bytes that it reads and the words of its wall, and the words that it leaves.
 use mathlib.Core.Bool.{Bool, _&&_}
 use mathlib.Core.List.{List, [], _∷_, _++_, map}
-use Prim.Native.Nat.{ℕ, zero, suc, _+_, _-_, _*_, _/_, _%_}
+use Prim.Native.Nat.{ℕ, _+_, _-_, _*_}
 use lib.Dec.{leb, ltb, eqb}
 use lib.ListN.{length}
 use Rattle.model.specs.Lists.{choose, all}
 use Rattle.model.specs.Walls.{readHeader}
 use Rattle.model.specs.Calls.{Outcome, increment}
+use Rattle.texts.specs.Texts.{newline, answerLine, totalLine, badLine}
 use Rattle.lines.specs.declared.read.Flow.{Flow}
 use Rattle.lines.specs.declared.read.Flow.the-variants.{Number, Bad}
-
--- ---- bytes: a space, a newline, and the digit d
-
-abbrev pub space : List ℕ
-space = 32 ∷ []
-
-abbrev pub newline : List ℕ
-newline = 10 ∷ []
-
-abbrev pub digit : ℕ → ℕ
-digit d = 48 + d
-
--- n in decimal, without leading zeros, where it has at most k + 1 digits
-abbrev pub digitsUpTo : ℕ → ℕ → List ℕ
-digitsUpTo zero n = digit n ∷ []
-digitsUpTo (suc k) n = choose (ltb n 10) (digit n ∷ []) (digitsUpTo k (n / 10) ++ digit (n % 10) ∷ [])
-
--- n has at most n + 1 digits
-unfoldable pub digits : ℕ → List ℕ
-digits n = digitsUpTo n n
 
 -- ---- lines of the input
 
@@ -61,33 +42,11 @@ valueOf l = valueAfter 0 l
 abbrev pub flowOf : List ℕ → Flow
 flowOf l = choose (isFlow l) (Number (valueOf l)) Bad
 
--- ---- lines of the output
-
--- the flow, the number and the count
-unfoldable pub answerLine : ℕ → ℕ → ℕ → List ℕ
-answerLine flow number count = (digits flow ++ space) ++ ((digits number ++ space) ++ (digits count ++ newline))
-
--- `total `, ` full ` and `bad line `
-abbrev pub totalWords : List ℕ
-totalWords = 116 ∷ 111 ∷ 116 ∷ 97 ∷ 108 ∷ 32 ∷ []
-
-abbrev pub fullWords : List ℕ
-fullWords = 32 ∷ 102 ∷ 117 ∷ 108 ∷ 108 ∷ 32 ∷ []
-
-abbrev pub badWords : List ℕ
-badWords = 98 ∷ 97 ∷ 100 ∷ 32 ∷ 108 ∷ 105 ∷ 110 ∷ 101 ∷ 32 ∷ []
-
-unfoldable pub totalLine : ℕ → ℕ → List ℕ
-totalLine total used = totalWords ++ ((digits total ++ fullWords) ++ (digits used ++ newline))
-
-unfoldable pub badLine : ℕ → List ℕ
-badLine n = badWords ++ (digits n ++ newline)
+-- ---- the whole
 
 -- `bad input`
 abbrev pub badInput : List ℕ
 badInput = 98 ∷ 97 ∷ 100 ∷ 32 ∷ 105 ∷ 110 ∷ 112 ∷ 117 ∷ 116 ∷ newline
-
--- ---- the whole
 
 -- the lines from line n on: each flow is incremented in turn, up to the first line that is none
 unfoldable pub answers : ℕ → List (List ℕ) → List ℕ → List ℕ

@@ -3,10 +3,9 @@ ghost use mathlib.Core.List.{_++_};
 ghost use Prim.Native.Nat.{_≤_};
 ghost use lib.ListN.{length, drop};
 ghost use Rattle.lines.specs.Transcript.{answers, linesOf, transcript, wordsAfter, wordsOf};
-ghost use Rattle.lines.specs.Writing.{Room, Wrote};
+ghost use Rattle.texts.specs.Writing.{Room, Wrote};
 
 pub mod read;
-pub mod write;
 
 use read::Flow;
 
@@ -25,13 +24,13 @@ fn each_line(input: &[u8], words: &mut [u64], out: &mut [u8]) -> usize
         let rest = &input[at..];
         let n = read::line_length(rest);
         let Flow::Number(flow) = read::flow_in(&rest[..n]) else {
-            return write::bad_line(out, end, line);
+            return texts::bad_line(out, end, line);
         };
-        end = write::answer(out, end, flow, increment::increment(words, flow));
+        end = texts::answer(out, end, flow, increment::increment(words, flow));
         at += n + 1;
         line += 1;
     }
-    write::totals(out, end, words)
+    texts::totals(out, end, words)
 }
 
 // The whole output for the whole input, over the wall in the words: how many bytes of `out` it takes.
@@ -40,7 +39,7 @@ pub fn lines(input: &[u8], words: &mut [u64], out: &mut [u8]) -> usize
     ensures { λ r. ⌜ (r ≡ length (transcript (now (input .entry)) (now (words .entry)))) × (now (out .exit) ≡ transcript (now (input .entry)) (now (words .entry)) ++ drop r (now (out .entry))) × (now (words .exit) ≡ wordsAfter (now (input .entry)) (now (words .entry))) ⌝ }
 {
     if INPUT < input.len() {
-        return write::text(out, 0, b"bad input\n");
+        return texts::text(out, 0, b"bad input\n");
     }
     each_line(input, words, out)
 }

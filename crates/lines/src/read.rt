@@ -1,6 +1,6 @@
 ghost use mathlib.Core.Path.{_≡_};
 ghost use Rattle.lines.specs.Transcript.{flowOf};
-ghost use Rattle.lines.specs.Writing.{Ends};
+ghost use Rattle.lines.specs.Reading.{Ends};
 
 pub enum Flow {
     Number(u64),

@@ -6,7 +6,7 @@ use lib.ListN.{length, take, drop}
 use lib.Seq.{length-take-le}
 use Rattle.lines.specs.declared.read.Flow.the-variants.{Number, Bad}
 use Rattle.lines.specs.Transcript.{flowOf}
-use Rattle.lines.specs.Writing.{Ends}
+use Rattle.lines.specs.Reading.{Ends}
 use Rattle.lines.proofs.Turns.{Done, done-none, rest-is, total-room, total-done, total-words, next-in, bad-room, bad-done, bad-words, flow-room, flow-done}
 use Rattle.lines.proofs.each_line.Statement.{statement}
 use Rattle.lines.proofs.each_line.Tie as tie

@@ -1,8 +1,8 @@
 use borrow.Author.Needs.{needs}
-use Rattle.lines.specs.Transcript.{digits}
-use Rattle.lines.proofs.Texts.{room-first, room-next, and-then}
-use Rattle.lines.proofs.write.field.Statement.{statement}
-use Rattle.lines.proofs.write.field.Tie as tie
+use Rattle.texts.specs.Texts.{digits}
+use Rattle.texts.proofs.Texts.{room-first, room-next, and-then}
+use Rattle.texts.proofs.field.Statement.{statement}
+use Rattle.texts.proofs.field.Tie as tie
 
 number-requires : tie.Need-number-requires
 number-requires c κs = let a = c .before .before .before .args in room-first (a .out .now) (a .at) (digits (a .n)) (a .end .now) (c .before .before .before .pre)

@@ -1,19 +1,10 @@
--- Text written into a buffer, and lines found in one: what the contracts of the parts say.
+-- Lines found in what is left of the input: what the contracts of the parts say.
 use mathlib.Core.Path.{_≡_}
 use mathlib.Core.List.{List, [], _∷_}
 use Prim.Native.Nat.{ℕ, _+_, _≤_}
 use lib.Dec.{eqb}
 use lib.ListN.{length, take, drop}
-use Rattle.model.specs.Lists.{choose, splice}
-
--- there is room for the text at a place
-abbrev pub Room : List ℕ → ℕ → List ℕ → Type 0
-Room out at text = at + length text ≤ length out
-
--- the text stands at a place of the buffer, which is else as before, and the next place comes after it
-pub record Wrote (before : List ℕ) (at : ℕ) (text after : List ℕ) (next : ℕ) : Type 0 where
-  pub bytes : after ≡ splice before at text
-  pub ends : next ≡ at + length text
+use Rattle.model.specs.Lists.{choose}
 
 -- the bytes before the first newline, and those after it
 unfoldable pub firstLine : List ℕ → List ℕ

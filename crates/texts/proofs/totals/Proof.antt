@@ -2,10 +2,10 @@ use borrow.Author.Needs.{needs}
 use mathlib.Core.List.{_++_}
 use Prim.Native.Nat.{_/_, _%_}
 use Rattle.model.specs.Walls.{wordAt}
-use Rattle.lines.specs.Transcript.{digits, newline, totalWords, fullWords, totalLine}
-use Rattle.lines.proofs.Texts.{room-first, room-second, room-third, all-three}
-use Rattle.lines.proofs.write.totals.Statement.{statement}
-use Rattle.lines.proofs.write.totals.Tie as tie
+use Rattle.texts.specs.Texts.{digits, newline, totalWords, fullWords, totalLine}
+use Rattle.texts.proofs.Texts.{room-first, room-second, room-third, all-three}
+use Rattle.texts.proofs.totals.Statement.{statement}
+use Rattle.texts.proofs.totals.Tie as tie
 
 word-requires : tie.Need-word-requires
 word-requires c κs = search needs

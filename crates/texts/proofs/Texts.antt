@@ -6,7 +6,7 @@ use native.Mathlib.Omega.{arith}
 use lib.ListN.{length, length-append}
 use Rattle.model.specs.Lists.{splice}
 use Rattle.model.proofs.Splices.{splice-on, length-splice}
-use Rattle.lines.specs.Writing.{Room, Wrote}
+use Rattle.texts.specs.Writing.{Room, Wrote}
 
 pub same-length : {o s p : List ℕ} {at n : ℕ} → Room o at s → Wrote o at s p n → length p ≡ length o
 same-length {o} {s} {at = at} h w = rw (w .bytes) (length-splice o at s h)

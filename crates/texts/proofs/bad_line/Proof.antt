@@ -1,9 +1,9 @@
 use borrow.Author.Needs.{needs}
 use mathlib.Core.List.{_++_}
-use Rattle.lines.specs.Transcript.{digits, newline, badWords, badLine}
-use Rattle.lines.proofs.Texts.{room-first, room-next, and-then}
-use Rattle.lines.proofs.write.bad_line.Statement.{statement}
-use Rattle.lines.proofs.write.bad_line.Tie as tie
+use Rattle.texts.specs.Texts.{digits, newline, badWords, badLine}
+use Rattle.texts.proofs.Texts.{room-first, room-next, and-then}
+use Rattle.texts.proofs.bad_line.Statement.{statement}
+use Rattle.texts.proofs.bad_line.Tie as tie
 
 slice-aggregate-text : tie.Need-slice-aggregate-text
 slice-aggregate-text c = search needs

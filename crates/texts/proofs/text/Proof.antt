@@ -7,8 +7,8 @@ use native.Mathlib.Omega.{arith}
 use lib.ListN.{length, getD, set, length-set}
 use lib.Seq.{paste, paste-zero, paste-suc}
 use Rattle.model.proofs.Written.{splice-paste}
-use Rattle.lines.proofs.write.text.Statement.{statement}
-use Rattle.lines.proofs.write.text.Tie as tie
+use Rattle.texts.proofs.text.Statement.{statement}
+use Rattle.texts.proofs.text.Tie as tie
 
 abbrev Inv-loop : tie.InvT-loop
 Inv-loop out₀ at s i₀ out i = (i ≤ length s) × (out ≡ paste out₀ at s i) × (length out ≡ length out₀)

@@ -4,17 +4,17 @@ use mathlib.Core.List.{[], _∷_}
 use Prim.Native.Nat.{ℕ, _/_, _%_, _<_}
 use native.Mathlib.Omega.{arith}
 use lib.ListN.{length}
-use Rattle.lines.specs.Transcript.{digit, digits}
-use Rattle.lines.proofs.Decimals.{one-digit, more-digits}
-use Rattle.lines.proofs.Texts.{and-then, room-first, room-next}
+use Rattle.texts.specs.Texts.{digit, digits}
+use Rattle.texts.proofs.Decimals.{one-digit, more-digits}
+use Rattle.texts.proofs.Texts.{and-then, room-first, room-next}
 use borrow.Fn.Kinds.{In}
 use borrow.Fn.PlainCycle.{Measures, is, falls, and}
-use Rattle.lines.proofs.write.number.Reads as number
-use Rattle.lines.proofs.write.number.Kinds as number-kinds
-use Rattle.lines.proofs.write.+number.Lts-number as number-lts
-use Rattle.lines.proofs.write.put_digit.Reads as put-digit-reads
-use Rattle.lines.proofs.write.+number.{statement}
-use Rattle.lines.proofs.write.+number.Tie.{close}
+use Rattle.texts.proofs.number.Reads as number
+use Rattle.texts.proofs.number.Kinds as number-kinds
+use Rattle.texts.proofs.+number.Lts-number as number-lts
+use Rattle.texts.proofs.put_digit.Reads as put-digit-reads
+use Rattle.texts.proofs.+number.{statement}
+use Rattle.texts.proofs.+number.Tie.{close}
 
 abbrev μ-number : Measures 1 number-kinds.ps ℕ
 μ-number κs a = a .1 .1 .0

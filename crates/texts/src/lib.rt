@@ -4,8 +4,8 @@ ghost use mathlib.Core.List.{[], _∷_, _++_};
 ghost use Prim.Native.Nat.{_<_};
 ghost use lib.ListN.{getD, length};
 ghost use Rattle.model.specs.Walls.{readHeader};
-ghost use Rattle.lines.specs.Transcript.{answerLine, badLine, digit, digits, totalLine};
-ghost use Rattle.lines.specs.Writing.{Room, Wrote};
+ghost use Rattle.texts.specs.Texts.{answerLine, badLine, digit, digits, totalLine};
+ghost use Rattle.texts.specs.Writing.{Room, Wrote};
 
 // Each of these writes at a place where there is room, and gives the next place.
 

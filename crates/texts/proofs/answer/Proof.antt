@@ -1,9 +1,9 @@
 use borrow.Author.Needs.{needs}
 use mathlib.Core.List.{_++_}
-use Rattle.lines.specs.Transcript.{digits, space, newline, answerLine}
-use Rattle.lines.proofs.Texts.{room-first, room-second, room-third, all-three}
-use Rattle.lines.proofs.write.answer.Statement.{statement}
-use Rattle.lines.proofs.write.answer.Tie as tie
+use Rattle.texts.specs.Texts.{digits, space, newline, answerLine}
+use Rattle.texts.proofs.Texts.{room-first, room-second, room-third, all-three}
+use Rattle.texts.proofs.answer.Statement.{statement}
+use Rattle.texts.proofs.answer.Tie as tie
 
 slice-aggregate-field : tie.Need-slice-aggregate-field
 slice-aggregate-field c = search needs

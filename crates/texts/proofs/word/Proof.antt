@@ -1,8 +1,8 @@
 use borrow.Author.Needs.{needs}
 use mathlib.Core.Path.{sym}
 use lib.ListN.{List·getD-eq-default}
-use Rattle.lines.proofs.write.word.Statement.{statement}
-use Rattle.lines.proofs.write.word.Tie as tie
+use Rattle.texts.proofs.word.Statement.{statement}
+use Rattle.texts.proofs.word.Tie as tie
 
 mul-result : tie.Need-mul-result
 mul-result c = search needs

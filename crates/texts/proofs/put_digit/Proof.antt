@@ -1,9 +1,9 @@
 use borrow.Author.Needs.{needs}
 use mathlib.Core.Path.{refl}
 use Rattle.model.proofs.Splices.{splice-word}
-use Rattle.lines.specs.Transcript.{digit}
-use Rattle.lines.proofs.write.put_digit.Statement.{statement}
-use Rattle.lines.proofs.write.put_digit.Tie as tie
+use Rattle.texts.specs.Texts.{digit}
+use Rattle.texts.proofs.put_digit.Statement.{statement}
+use Rattle.texts.proofs.put_digit.Tie as tie
 
 cast-out : tie.Need-cast-out
 cast-out c = search needs

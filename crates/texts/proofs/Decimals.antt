@@ -6,7 +6,7 @@ use native.Mathlib.Omega.{arith}
 use borrow.Author.Tests.{lt-ltb, le-ltb}
 use lib.Dec.{ltb}
 use Rattle.model.specs.Lists.{choose}
-use Rattle.lines.specs.Transcript.{digit, digitsUpTo, digits}
+use Rattle.texts.specs.Texts.{digit, digitsUpTo, digits}
 
 -- any bound from n on gives the same digits
 same-digits : (k m n : ℕ) → n ≤ k → n ≤ m → digitsUpTo k n ≡ digitsUpTo m n
