@@ -22,10 +22,10 @@ use Rattle.model.proofs.Buckets.{count-at, length-counts}
 use Rattle.uppers.specs.declared.Judged.{Judged}
 use Rattle.uppers.specs.declared.Judged.the-variants.{Sound, Unsound}
 use Rattle.uppers.specs.Judge.{verdict}
-use Rattle.moves.specs.Full.{fullAt, fullTests}
+use Rattle.moves.specs.Full.{fullAt}
 use Rattle.uppers.proofs.Verdicts.{said-sound, said-not, say-sound, say-not}
 use Rattle.fulls.proofs.Places.{moved-count, moved-sound, moved-unsound, bad-place, mark-none, sum-next}
-use Rattle.fulls.specs.Fulls.{gained, zeroPlaces}
+use Rattle.fulls.specs.Fulls.{fullTests, gained, zeroPlaces}
 use Rattle.fulls.proofs.Zeros.{too-few, all-sound}
 
 -- ---- one place

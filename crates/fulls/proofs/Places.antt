@@ -23,7 +23,8 @@ use Rattle.model.proofs.Buckets.{count-at, length-counts}
 use Rattle.uppers.specs.declared.Judged.{Judged}
 use Rattle.uppers.specs.declared.Judged.the-variants.{Sound, Unsound}
 use Rattle.uppers.specs.Judge.{verdict}
-use Rattle.moves.specs.Full.{fullAt, fullTests}
+use Rattle.moves.specs.Full.{fullAt}
+use Rattle.fulls.specs.Fulls.{fullTests}
 use Rattle.uppers.proofs.Verdicts.{said-sound, said-not, say-sound, say-not}
 use Rattle.moves.proofs.Fulls.{full-moved, full-count}
 

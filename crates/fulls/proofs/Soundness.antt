@@ -21,7 +21,7 @@ use Rattle.model.proofs.Buckets.{bucket-facts, facts-bucket, levels-sound, soun
 use Rattle.uppers.specs.declared.Judged.{Judged}
 use Rattle.uppers.specs.declared.Judged.the-variants.{Sound, Unsound}
 use Rattle.uppers.specs.Judge.{verdict}
-use Rattle.moves.specs.Full.{fullTests}
+use Rattle.fulls.specs.Fulls.{fullTests}
 use Rattle.uppers.proofs.Verdicts.{said-sound, said-not}
 use Rattle.sums.specs.Sums.{firstSum}
 use Rattle.uppers.specs.Uppers.{rowsBy, levelsBy, markBits, soundBy, sumBy, judged, Ahead}

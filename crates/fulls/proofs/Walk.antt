@@ -11,9 +11,9 @@ use Rattle.model.specs.Sound.{movedAt, bucketCounts, soundPlace}
 use Rattle.uppers.specs.declared.Judged.{Judged}
 use Rattle.uppers.specs.declared.Judged.the-variants.{Sound, Unsound}
 use Rattle.uppers.specs.Judge.{verdict}
-use Rattle.moves.specs.Full.{fullAt, fullTests}
+use Rattle.moves.specs.Full.{fullAt}
 use Rattle.moves.proofs.Fulls.{full-moved}
-use Rattle.fulls.specs.Fulls.{gained, zeroPlaces}
+use Rattle.fulls.specs.Fulls.{fullTests, gained, zeroPlaces}
 use Rattle.fulls.proofs.Gains.{Walked, none-walked, unmoved-walked, gains-over, one-walked, all-walked}
 use Rattle.fulls.proofs.Marks.{Lowest, none-left, passed, between, taken}
 

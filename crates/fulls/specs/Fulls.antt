@@ -1,12 +1,14 @@
 -- A flagged bucket in the words of a wall.
 use mathlib.Core.Path.{_≡_}
-use mathlib.Core.List.{List}
+use mathlib.Core.Bool.{Bool}
+use mathlib.Core.List.{List, [], _∷_}
 use Prim.Native.Nat.{ℕ, zero, suc, _+_, _-_, _/_, _^_, _<_}
-use lib.Dec.{eqb}
+use lib.Dec.{eqb, leb}
 use lib.ListN.{getD}
-use Rattle.model.specs.Lists.{sum, oneIf}
+use Rattle.model.specs.Lists.{sum, oneIf, every}
+use Rattle.model.specs.Packed.{rank}
 use Rattle.model.specs.Walls.{Full}
-use Rattle.model.specs.Sound.{fullCount, ownCounts, bucketCounts, soundBucket}
+use Rattle.model.specs.Sound.{fullCount, ownCounts, bucketCounts, soundBucket, soundPlace}
 use Rattle.uppers.specs.declared.Judged.{Judged}
 use Rattle.uppers.specs.Judge.{verdict}
 use Rattle.moves.specs.Full.{fullAt}
@@ -16,6 +18,10 @@ use Rattle.plain.specs.Plain.{bucketIn}
 -- the counts of its own levels
 abbrev pub ownIn : ℕ → ℕ → ℕ → ℕ → List ℕ → ℕ → List ℕ
 ownIn w n e v ws at = ownCounts w (rowsBy n e v) (bucketIn w n e v ws at)
+
+-- the tests of soundBucket that a flagged bucket with the own counts os has to pass besides
+abbrev pub fullTests : List ℕ → Full → ℕ → List Bool
+fullTests os f total = leb 1 (rank (f .moved) 64) ∷ every 64 (soundPlace os f) ∷ leb (sum (bucketCounts os f)) total ∷ []
 
 -- by how much the count of place a exceeds the own one
 abbrev pub gained : List ℕ → Full → ℕ → ℕ

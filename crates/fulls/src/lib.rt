@@ -6,9 +6,9 @@ ghost use Rattle.model.specs.Lists.{sum, all};
 ghost use Rattle.model.specs.Packed.{bit};
 ghost use Rattle.model.specs.Sound.{bucketCounts, soundPlace};
 ghost use Rattle.uppers.specs.Judge.{verdict};
-ghost use Rattle.moves.specs.Full.{fullAt, fullTests};
+ghost use Rattle.moves.specs.Full.{fullAt};
 ghost use Rattle.uppers.specs.Uppers.{Ahead};
-ghost use Rattle.fulls.specs.Fulls.{Judges, gained, ownIn, zeroPlaces};
+ghost use Rattle.fulls.specs.Fulls.{Judges, fullTests, gained, ownIn, zeroPlaces};
 use uppers::Judged;
 
 // The count at a place: the full-size one if it is moved, else the bucket's own. Who read the wall's header knows what this asks.

@@ -26,7 +26,8 @@ use Rattle.packed.proofs.Words.{putIn-lt}
 use Rattle.shapes.specs.declared.Shape.{Shape}
 use Rattle.shapes.specs.Shapes.{rowsFrom, entriesAt, widthAt}
 use Rattle.shapes.proofs.Shapes.{counter-sum}
-use Rattle.growth.specs.Levels.{marksOf, levelsFrom}
+use Rattle.uppers.specs.Uppers.{marksOf}
+use Rattle.growth.specs.Levels.{levelsFrom}
 use Rattle.rooms.specs.Growth.{entering, roomToEnter}
 use Rattle.growth.proofs.Ahead.{marksAhead, marks-next}
 

@@ -1,12 +1,13 @@
 -- What growing asks of the shape, and the upper levels of a bucket from one of them on.
 use mathlib.Core.Path.{_≡_}
 use mathlib.Core.List.{List, [], _∷_}
-use Prim.Native.Nat.{ℕ, zero, suc, _+_, _/_, _%_, _^_, _≤_}
+use Prim.Native.Nat.{ℕ, zero, suc, _+_, _/_, _^_, _≤_}
 use lib.ListN.{getD}
 use Rattle.model.specs.Shapes.{counterBits}
 use Rattle.model.specs.Levels.{Level, level}
 use Rattle.shapes.specs.declared.Shape.{Shape}
 use Rattle.shapes.specs.Shapes.{rowsIn, entriesAt, Valid}
+use Rattle.uppers.specs.Uppers.{marksOf}
 use Rattle.growth.specs.declared.Upper.{Upper}
 
 -- a valid shape whose 64 counts add up within a word: with the table's rows L is at most 34
@@ -18,11 +19,6 @@ pub record Fit (s : Shape) : Type 0 where
 pub record At (s : Shape) (left j : ℕ) : Type 0 where
   pub fit : Fit s
   pub place : j + left ≡ s .uppers
-
--- the marks at the low end of g; n levels come after this one, and the last level has none
-abbrev pub marksOf : ℕ → ℕ → ℕ → ℕ
-marksOf zero k g = 0
-marksOf (suc n) k g = g % 2 ^ k
 
 -- the n upper levels from j on: us has their words of entries, g is the packed word from the marks of level j on
 unfoldable pub levelsFrom : ℕ → Shape → List ℕ → ℕ → ℕ → List Level
