@@ -1,32 +1,33 @@
--- The words of a sound bucket are the only ones that the layout allows, and walls without flags that count alike are the same words.
+-- The words of a sound bucket are the only ones that the layout allows, and nothing in the words of a wall is left open.
 use mathlib.Core.Path.{_≡_, refl, sym, ap, ap₂, _∙_, subst}
+use mathlib.Core.Bool.{Bool, true, false}
 use mathlib.Core.List.{List, [], _∷_, map}
-use Prim.Native.Nat.{ℕ, zero, suc, _+_, _*_, _/_, _%_, _^_, _<_}
-use native.Mathlib.Nat.{le-trans, mod-eq-of-lt}
+use Prim.Native.Nat.{ℕ, zero, suc, _+_, _*_, _/_, _%_, _^_, _≤_, _<_}
+use native.Mathlib.Nat.{le-trans, mod-eq-of-lt, mod-lt}
+use native.Mathlib.Decide.{decLt}
 use native.Mathlib.Omega.{arith}
 use lib.Dec.{T, eqb, ltb, eqb→eq, lit<}
 use lib.Pow.{pow-mono, shr-shr}
 use lib.ListN.{length, getD, take, drop, replicate, length-replicate}
 use lib.Seq.{ext-getD}
-use Rattle.model.specs.Lists.{sum, byMark}
-use Rattle.model.specs.Packed.{pack, joinFields, cutFields}
+use Rattle.model.specs.Lists.{sum, oneIf, byMark, tabulate, pieces}
+use Rattle.model.specs.Packed.{pack, unpack, bit, joinFields, cutFields}
 use Rattle.model.specs.Shapes.{Row, markWidths, bucketSize}
 use Rattle.model.specs.Slots.{slot}
 use Rattle.model.specs.Levels.{Level}
-use Rattle.model.specs.Walls.{Header, Bucket, Full, Wall, flows, bucketsIn, readHeader, parse, emptyBucket, emptyFull}
-use Rattle.model.specs.Sound.{upperMarks, flag, spareBits, fullNumber, packedWord, pairLevels, levelsOf, ownCounts, movedAt, fullCount, bucketCounts, bucketAt, ownAt, fullFor, countsAt, count, isEmptyFull}
+use Rattle.model.specs.Walls.{Header, Bucket, Full, Wall, flows, bucketsIn, bucketLength, readHeader, readFull, parse, emptyBucket, emptyFull}
+use Rattle.model.specs.Sound.{upperMarks, flag, spareBits, fullNumber, packedWord, pairLevels, levelsOf, ownCounts, movedAt, fullCount, bucketCounts, bucketAt, ownAt, fullFor, countsAt, count, holdsNumber, holders, isEmptyFull}
 use Rattle.model.specs.Calls.{fromLevels, holding, overflowed}
-use Rattle.model.proofs.Lists.{Below, below-take}
+use Rattle.model.proofs.Lists.{Below, below-take, below-at}
+use Rattle.model.proofs.Packing.{length-unpack, pack-unpack}
 use Rattle.model.proofs.Fields.{join-cut}
-use Rattle.model.proofs.Tools.{and-tests, each-at}
+use Rattle.model.proofs.Tools.{Each, and-tests, each-at, each-map}
 use Rattle.model.proofs.Headers.{Fine, flows-number}
 use Rattle.model.proofs.Slots.{slot-lt, slot-slot}
 use Rattle.model.proofs.Parsing.{Lengths, bucket-at, getD-in}
-use Rattle.model.proofs.Sums.{sum-zero}
-use Rattle.model.proofs.Buckets.{SoundB, own-coded, length-own, counts-none, count-at, packed-goes}
+use Rattle.model.proofs.Buckets.{SoundB, own-coded, length-own, counts-none, count-at, packed-goes, unpack-bit, flag-le}
 use Rattle.model.proofs.SoundWalls.{SoundWall}
 use Rattle.model.proofs.OwnSteps.{length-countsAt, empty-lengths}
-use Rattle.model.proofs.Used.{used-flags}
 use Rattle.model.proofs.Bridge.{first-words}
 use Rattle.demands.specs.DemandTwo.{Words, Laid}
 
@@ -59,6 +60,9 @@ word-flagged x s f = omega (arith, shr-shr x 40 1, shr-shr x 41 7)
 
 -- ---- a bucket
 
+pub number-none : {w : ℕ} {rs : List Row} {t u : ℕ} {b : Bucket} {f : Full} → SoundB w rs t u b f → flag b ≡ 0 → fullNumber b ≡ 0
+number-none {u = u} {b = b} s e = eqb→eq (fullNumber b) 0 (subst (λ m. T (byMark m (eqb (fullNumber b) 0) (ltb (fullNumber b) u))) e (s .number))
+
 module _ (w : ℕ) (rs : List Row) (fine : Fine rs) (t u : ℕ) (b : Bucket) (f : Full) (s : SoundB w rs t u b f) (l : Lengths w (length rs) b) (ws : Below (2 ^ 64) (b .first)) where
   abbrev ms : List ℕ
   ms = cutFields (markWidths rs) (upperMarks (b .packed))
@@ -85,11 +89,8 @@ module _ (w : ℕ) (rs : List Row) (fine : Fine rs) (t u : ℕ) (b : Bucket) (f 
         packed = packedWord (joined i) 0 0;
       }
 
-  number-none : flag b ≡ 0 → fullNumber b ≡ 0
-  number-none e = eqb→eq (fullNumber b) 0 (subst (λ m. T (byMark m (eqb (fullNumber b) 0) (ltb (fullNumber b) u))) e (s .number))
-
   plain-words : flag b ≡ 0 → b ≡ holding w rs (ownCounts w rs b)
-  plain-words e = sym (own-held ∙ ap (λ p. record { first = b .first; marks = b .marks; uppers = b .uppers; packed = p }) (word-plain (b .packed) (s .spare) e (number-none e)))
+  plain-words e = sym (own-held ∙ ap (λ p. record { first = b .first; marks = b .marks; uppers = b .uppers; packed = p }) (word-plain (b .packed) (s .spare) e (number-none s e)))
 
   flagged-words : flag b ≡ 1 → b ≡ overflowed (holding w rs (ownCounts w rs b)) (fullNumber b)
   unfolding overflowed
@@ -115,7 +116,7 @@ first-below ws h i k =
     (below-take (2 ^ 64) (take n (drop (4 + i * n) ws)) (readHeader ws .width) (below-take (2 ^ 64) (drop (4 + i * n) ws) n (below-drop (2 ^ 64) ws (4 + i * n) (words-below ws h))))
 
 module _ (v : Wall) (s : SoundWall v) (i : ℕ) (li : i < bucketsIn (v .header)) where
-  at-counts : flag (bucketAt v i) ≡ 0 → countsAt v i ≡ ownAt v i
+  pub at-counts : flag (bucketAt v i) ≡ 0 → countsAt v i ≡ ownAt v i
   unfolding countsAt
   at-counts e =
       ap (λ m. bucketCounts (ownAt v i) (byMark m emptyFull (getD (v .fulls) (fullNumber (bucketAt v i)) emptyFull))) e
@@ -146,27 +147,9 @@ module _ (v : Wall) (s : SoundWall v) (i : ℕ) (li : i < bucketsIn (v .header))
         unmoved = λ a la e. (none-here a la e, sym (here a la ∙ ap (λ m. byMark m (getD os a 0) (fullCount f a)) e));
       }
 
--- ---- walls without flags
-
-none-counted : (l : List ℕ) → sum l ≡ 0 → l ≡ replicate (length l) 0
-none-counted [] e = refl
-none-counted (x ∷ l) e = let z : x ≡ 0 = omega arith in ap₂ _∷_ z (none-counted l (omega arith))
-
-empty-full : (f : Full) → length (f .counts) ≡ 64 → T (isEmptyFull f) → f ≡ emptyFull
-empty-full f n t =
-    let u = and-tests (eqb (f .moved) 0) (eqb (sum (f .counts)) 0) t in
-    ap₂ (λ m c. record { moved = m; counts = c }) (eqb→eq (f .moved) 0 (u .0))
-    (none-counted (f .counts) (eqb→eq (sum (f .counts)) 0 (u .1)) ∙ ap (λ k. replicate k 0) n)
+-- ---- two walls that count alike
 
 module _ (v : Wall) (s : SoundWall v) where
-  none-used : ((i : ℕ) → i < bucketsIn (v .header) → flag (bucketAt v i) ≡ 0) → v .header .used ≡ 0
-  none-used z = sym (used-flags v s) ∙ sum-zero (bucketsIn (v .header)) (λ k. flag (bucketAt v k)) z
-
-  full-none : ((i : ℕ) → i < bucketsIn (v .header) → flag (bucketAt v i) ≡ 0) → (q : ℕ) → q < v .header .full → getD (v .fulls) q emptyFull ≡ emptyFull
-  full-none z q h =
-      empty-full (getD (v .fulls) q emptyFull) (each-at (λ (f : Full). length (f .counts) ≡ 64) (v .fulls) q emptyFull (s .shaped .fulls) (length-replicate {A = ℕ} 64 0))
-      (s .zeros q h (omega (arith, none-used z)))
-
   -- every place of a bucket is a flow's
   count-slot : (i a : ℕ) → i < bucketsIn (v .header) → a < 64 → count v (slot (v .header .bits) (i * 64 + a)) ≡ getD (countsAt v i) a 0
   unfolding count
@@ -180,36 +163,156 @@ module _ (v : Wall) (s : SoundWall v) where
       low : (i a : ℕ) → a < 64 → (i * 64 + a) % 64 ≡ a
       low i a h = omega arith
 
--- two walls of one header, without flags and with the same counts, each bucket being the encoding of its counts
-module _ (v u : Wall) (s : SoundWall v) (r : SoundWall u) (e : v .header ≡ u .header)
-    (zv : (i : ℕ) → i < bucketsIn (v .header) → flag (bucketAt v i) ≡ 0) (zu : (i : ℕ) → i < bucketsIn (u .header) → flag (bucketAt u i) ≡ 0)
-    (lv : (i : ℕ) → i < bucketsIn (v .header) → bucketAt v i ≡ holding (v .header .width) (v .header .rows) (countsAt v i))
-    (lu : (i : ℕ) → i < bucketsIn (u .header) → bucketAt u i ≡ holding (u .header .width) (u .header .rows) (countsAt u i))
-    (c : (y : ℕ) → y < flows (v .header) → count v y ≡ count u y) where
-  also : (i : ℕ) → i < bucketsIn (v .header) → i < bucketsIn (u .header)
-  also i li = subst (λ (h : Header). i < bucketsIn h) e li
+module _ (v u : Wall) (s : SoundWall v) (r : SoundWall u) (e : v .header ≡ u .header) (c : (y : ℕ) → y < flows (v .header) → count v y ≡ count u y) where
+  pub in-both : (i : ℕ) → i < bucketsIn (v .header) → i < bucketsIn (u .header)
+  in-both i li = subst (λ (h : Header). i < bucketsIn h) e li
 
-  same-counts : (i : ℕ) → i < bucketsIn (v .header) → countsAt v i ≡ countsAt u i
-  same-counts i li = ext-getD 0 (countsAt v i) (countsAt u i) (length-countsAt v i ∙ sym (length-countsAt u i)) (λ a h.
+  pub counts-alike : (i : ℕ) → i < bucketsIn (v .header) → countsAt v i ≡ countsAt u i
+  counts-alike i li = ext-getD 0 (countsAt v i) (countsAt u i) (length-countsAt v i ∙ sym (length-countsAt u i)) (λ a h.
       let la : a < 64 = subst (λ n. a < n) (length-countsAt v i) h in
       sym (count-slot v s i a li la) ∙ c (slot (v .header .bits) (i * 64 + a)) (slot-lt (v .header .bits) (i * 64 + a))
-      ∙ ap (λ (h : Header). count u (slot (h .bits) (i * 64 + a))) e ∙ count-slot u r i a (also i li) la)
+      ∙ ap (λ (h : Header). count u (slot (h .bits) (i * 64 + a))) e ∙ count-slot u r i a (in-both i li) la)
 
-  same-bucket : (i : ℕ) → i < bucketsIn (v .header) → bucketAt v i ≡ bucketAt u i
-  same-bucket i li = lv i li ∙ ap₂ (λ (h : Header) k. holding (h .width) (h .rows) k) e (same-counts i li) ∙ sym (lu i (also i li))
+-- ---- full-size buckets
 
-  same-buckets : v .buckets ≡ u .buckets
-  same-buckets =
+none-counted : (l : List ℕ) → sum l ≡ 0 → l ≡ replicate (length l) 0
+none-counted [] e = refl
+none-counted (x ∷ l) e = let z : x ≡ 0 = omega arith in ap₂ _∷_ z (none-counted l (omega arith))
+
+empty-full : (f : Full) → length (f .counts) ≡ 64 → T (isEmptyFull f) → f ≡ emptyFull
+empty-full f n t =
+    let u = and-tests (eqb (f .moved) 0) (eqb (sum (f .counts)) 0) t in
+    ap₂ (λ m c. record { moved = m; counts = c }) (eqb→eq (f .moved) 0 (u .0))
+    (none-counted (f .counts) (eqb→eq (sum (f .counts)) 0 (u .1)) ∙ ap (λ k. replicate k 0) n)
+
+find : (n : ℕ) (f : ℕ → ℕ) → 0 < sum (tabulate n f) → (i : ℕ) × (i < n) × (0 < f i)
+find zero f h = absurd (omega arith)
+find (suc n) f h = go (f 0) refl (find n (λ i. f (suc i)))
+  where
+    go : (k : ℕ) → f 0 ≡ k → (0 < sum (tabulate n (λ i. f (suc i))) → (i : ℕ) × (i < n) × (0 < f (suc i))) → (i : ℕ) × (i < suc n) × (0 < f i)
+    go zero e rec = let r = rec (omega arith) in (suc (r .0), omega (arith, r .1), r .2)
+    go (suc k) e rec = (0, omega arith, omega arith)
+
+holds-of : (q : ℕ) (b : Bucket) → 0 < holdsNumber q b → (flag b ≡ 1) × (fullNumber b ≡ q)
+holds-of q b h = go (flag b) refl (flag-le b) (eqb (fullNumber b) q) refl h
+  where
+    go : (m : ℕ) → flag b ≡ m → m ≤ 1 → (t : Bool) → eqb (fullNumber b) q ≡ t → 0 < byMark m 0 (oneIf t) → (flag b ≡ 1) × (fullNumber b ≡ q)
+    go zero e l t k h = absurd (omega arith)
+    go (suc zero) e l true k h = (e, eqb→eq (fullNumber b) q (subst T (sym k) tt))
+    go (suc zero) e l false k h = absurd (omega arith)
+    go (suc (suc m)) e l t k h = absurd (omega arith)
+
+bits-word : (x y : ℕ) → x < 2 ^ 64 → y < 2 ^ 64 → ((a : ℕ) → a < 64 → bit x a ≡ bit y a) → x ≡ y
+bits-word x y lx ly f =
+    sym (pack-unpack 1 64 x ∙ mod-eq-of-lt lx)
+    ∙ ap (pack 1) (ext-getD 0 (unpack 1 64 x) (unpack 1 64 y) (length-unpack 1 64 x ∙ sym (length-unpack 1 64 y)) (λ a h.
+    let la : a < 64 = subst (λ n. a < n) (length-unpack 1 64 x) h in
+    unpack-bit x a la ∙ f a la ∙ sym (unpack-bit y a la)))
+    ∙ (pack-unpack 1 64 y ∙ mod-eq-of-lt ly)
+
+same-full : (f g : Full) → length (f .counts) ≡ 64 → length (g .counts) ≡ 64 → f .moved < 2 ^ 64 → g .moved < 2 ^ 64
+    → ((a : ℕ) → a < 64 → movedAt f a ≡ movedAt g a) → ((a : ℕ) → a < 64 → fullCount f a ≡ fullCount g a) → f ≡ g
+same-full f g nf ng lf lg m c =
+    ap₂ (λ x l. record { moved = x; counts = l }) (bits-word (f .moved) (g .moved) lf lg m)
+    (ext-getD 0 (f .counts) (g .counts) (nf ∙ sym ng) (λ a h. c a (subst (λ n. a < n) nf h)))
+
+below-pieces : (n k : ℕ) (ws : List ℕ) → Below (2 ^ 64) ws → Each (Below (2 ^ 64)) (pieces n k ws)
+below-pieces n zero ws h = tt
+below-pieces n (suc k) ws h = (below-take (2 ^ 64) ws n h, below-pieces n k (drop n ws) (below-drop (2 ^ 64) ws n h))
+
+pub full-below : (ws : List ℕ) → Words ws → (q : ℕ) → getD (parse ws .fulls) q emptyFull .moved < 2 ^ 64
+unfolding parse
+full-below ws h q =
+    let hd : Header = readHeader ws in
+    let o : ℕ = 4 + bucketsIn hd * bucketLength hd in
+    each-at (λ (f : Full). f .moved < 2 ^ 64) (map readFull (pieces 65 (hd .full) (drop o ws))) q emptyFull
+    (each-map (λ (f : Full). f .moved < 2 ^ 64) (Below (2 ^ 64)) readFull (λ x b. below-at x 0 (lit< tt) b) (pieces 65 (hd .full) (drop o ws)) (below-pieces 65 (hd .full) (drop o ws) (below-drop (2 ^ 64) ws o (words-below ws h))))
+    (lit< tt)
+
+module _ (v : Wall) (s : SoundWall v) (i : ℕ) (li : i < bucketsIn (v .header)) (lo : Below (2 ^ 64) (bucketAt v i .first)) where
+  bucket-is : bucketAt v i ≡ byMark (flag (bucketAt v i)) (holding (v .header .width) (v .header .rows) (ownAt v i)) (overflowed (holding (v .header .width) (v .header .rows) (ownAt v i)) (fullNumber (bucketAt v i)))
+  bucket-is = go (flag (bucketAt v i)) refl (flag-le (bucketAt v i))
+    where
+      go : (m : ℕ) → flag (bucketAt v i) ≡ m → m ≤ 1 → bucketAt v i ≡ byMark m (holding (v .header .width) (v .header .rows) (ownAt v i)) (overflowed (holding (v .header .width) (v .header .rows) (ownAt v i)) (fullNumber (bucketAt v i)))
+      go zero e l = laid-of v s i li lo .plain e ∙ ap (holding (v .header .width) (v .header .rows)) (at-counts v s i li e)
+      go (suc zero) e l = laid-of v s i li lo .flagged e
+      go (suc (suc m)) e l = absurd (omega arith)
+
+module _ (v u : Wall) (s : SoundWall v) (r : SoundWall u) (e : v .header ≡ u .header)
+    (bv : (i : ℕ) → i < bucketsIn (v .header) → Below (2 ^ 64) (bucketAt v i .first)) (bu : (i : ℕ) → i < bucketsIn (u .header) → Below (2 ^ 64) (bucketAt u i .first))
+    (fv : (q : ℕ) → getD (v .fulls) q emptyFull .moved < 2 ^ 64) (fu : (q : ℕ) → getD (u .fulls) q emptyFull .moved < 2 ^ 64)
+    (flags : (i : ℕ) → i < bucketsIn (v .header) → flag (bucketAt v i) ≡ flag (bucketAt u i))
+    (numbers : (i : ℕ) → i < bucketsIn (v .header) → fullNumber (bucketAt v i) ≡ fullNumber (bucketAt u i))
+    (own : (i : ℕ) → i < bucketsIn (v .header) → ownAt v i ≡ ownAt u i)
+    (moved : (i a : ℕ) → i < bucketsIn (v .header) → a < 64 → movedAt (fullFor v i) a ≡ movedAt (fullFor u i) a)
+    (c : (y : ℕ) → y < flows (v .header) → count v y ≡ count u y) where
+  both : (i : ℕ) → i < bucketsIn (v .header) → i < bucketsIn (u .header)
+  both = in-both v u s r e c
+
+  abbrev bucketFrom : Header → ℕ → List ℕ → ℕ → Bucket
+  bucketFrom h m os n = byMark m (holding (h .width) (h .rows) os) (overflowed (holding (h .width) (h .rows) os) n)
+
+  bucket-alike : (i : ℕ) → i < bucketsIn (v .header) → bucketAt v i ≡ bucketAt u i
+  bucket-alike i li =
+      bucket-is v s i li (bv i li)
+      ∙ ap (λ h. bucketFrom h (flag (bucketAt v i)) (ownAt v i) (fullNumber (bucketAt v i))) e
+      ∙ ap (λ m. bucketFrom (u .header) m (ownAt v i) (fullNumber (bucketAt v i))) (flags i li)
+      ∙ ap₂ (bucketFrom (u .header) (flag (bucketAt u i))) (own i li) (numbers i li)
+      ∙ sym (bucket-is u r i (both i li) (bu i (both i li)))
+
+  full-alike : (i : ℕ) → i < bucketsIn (v .header) → (a : ℕ) → a < 64 → fullCount (fullFor v i) a ≡ fullCount (fullFor u i) a
+  full-alike i li a la = go (movedAt (fullFor v i) a) refl (mod-lt (fullFor v i .moved / 2 ^ a) (lit< tt))
+    where
+      lv : Laid v i
+      lv = laid-of v s i li (bv i li)
+
+      lu : Laid u i
+      lu = laid-of u r i (both i li) (bu i (both i li))
+
+      go : (m : ℕ) → movedAt (fullFor v i) a ≡ m → m < 2 → fullCount (fullFor v i) a ≡ fullCount (fullFor u i) a
+      go zero k l = lv .unmoved a la k .0 ∙ sym (lu .unmoved a la (sym (moved i a li la) ∙ k) .0)
+      go (suc zero) k l = lv .moved a la k ∙ ap (λ x. getD x a 0) (counts-alike v u s r e c i li) ∙ sym (lu .moved a la (sym (moved i a li la) ∙ k))
+      go (suc (suc m)) k l = absurd (omega arith)
+
+  long-v : (q : ℕ) → length (getD (v .fulls) q emptyFull .counts) ≡ 64
+  long-v q = each-at (λ (f : Full). length (f .counts) ≡ 64) (v .fulls) q emptyFull (s .shaped .fulls) (length-replicate {A = ℕ} 64 0)
+
+  long-u : (q : ℕ) → length (getD (u .fulls) q emptyFull .counts) ≡ 64
+  long-u q = each-at (λ (f : Full). length (f .counts) ≡ 64) (u .fulls) q emptyFull (r .shaped .fulls) (length-replicate {A = ℕ} 64 0)
+
+  held-alike : (q : ℕ) → q < v .header .used → getD (v .fulls) q emptyFull ≡ getD (u .fulls) q emptyFull
+  unfolding holders
+  held-alike q l =
+      let d = find (bucketsIn (v .header)) (λ i. holdsNumber q (bucketAt v i)) (omega (arith, s .held q l)) in
+      let i : ℕ = d .0 in
+      let li : i < bucketsIn (v .header) = d .1 in
+      let k = holds-of q (bucketAt v i) (d .2) in
+      let pv : fullFor v i ≡ getD (v .fulls) q emptyFull = ap₂ (λ m n. byMark m emptyFull (getD (v .fulls) n emptyFull)) (k .0) (k .1) in
+      let pu : fullFor u i ≡ getD (u .fulls) q emptyFull = ap₂ (λ m n. byMark m emptyFull (getD (u .fulls) n emptyFull)) (sym (flags i li) ∙ k .0) (sym (numbers i li) ∙ k .1) in
+      same-full (getD (v .fulls) q emptyFull) (getD (u .fulls) q emptyFull) (long-v q) (long-u q) (fv q) (fu q)
+      (λ a la. ap (λ (f : Full). movedAt f a) (sym pv) ∙ moved i a li la ∙ ap (λ (f : Full). movedAt f a) pu)
+      (λ a la. ap (λ (f : Full). fullCount f a) (sym pv) ∙ full-alike i li a la ∙ ap (λ (f : Full). fullCount f a) pu)
+
+  spare-alike : (q : ℕ) → q < v .header .full → v .header .used ≤ q → getD (v .fulls) q emptyFull ≡ getD (u .fulls) q emptyFull
+  spare-alike q h l =
+      empty-full (getD (v .fulls) q emptyFull) (long-v q) (s .zeros q h l)
+      ∙ sym (empty-full (getD (u .fulls) q emptyFull) (long-u q) (r .zeros q (subst (λ (g : Header). q < g .full) e h) (subst (λ (g : Header). g .used ≤ q) e l)))
+
+  fulls-alike : v .fulls ≡ u .fulls
+  fulls-alike = ext-getD emptyFull (v .fulls) (u .fulls) (s .shaped .fulls-number ∙ ap (λ (h : Header). h .full) e ∙ sym (r .shaped .fulls-number)) (λ q h.
+      go q (subst (λ n. q < n) (s .shaped .fulls-number) h) (decLt q (v .header .used)))
+    where
+      go : (q : ℕ) → q < v .header .full → Dec (q < v .header .used) → getD (v .fulls) q emptyFull ≡ getD (u .fulls) q emptyFull
+      go q h (yes l) = held-alike q l
+      go q h (no n) = spare-alike q h (omega arith)
+
+  buckets-alike : v .buckets ≡ u .buckets
+  buckets-alike =
       let n = s .shaped .buckets-number ∙ ap bucketsIn e ∙ sym (r .shaped .buckets-number) in
       let d : Bucket = emptyBucket (v .header .width) (v .header .rows) in
       ext-getD d (v .buckets) (u .buckets) n (λ i h.
-      same-bucket i (subst (λ k. i < k) (s .shaped .buckets-number) h)
+      bucket-alike i (subst (λ k. i < k) (s .shaped .buckets-number) h)
       ∙ getD-in (u .buckets) i (emptyBucket (u .header .width) (u .header .rows)) d (subst (λ k. i < k) n h))
 
-  same-fulls : v .fulls ≡ u .fulls
-  same-fulls = ext-getD emptyFull (v .fulls) (u .fulls) (s .shaped .fulls-number ∙ ap (λ (h : Header). h .full) e ∙ sym (r .shaped .fulls-number)) (λ q h.
-      let k : q < v .header .full = subst (λ n. q < n) (s .shaped .fulls-number) h in
-      full-none v s zv q k ∙ sym (full-none u r zu q (subst (λ (h : Header). q < h .full) e k)))
-
-  pub same-walls : v ≡ u
-  same-walls i = record { header = e i; buckets = same-buckets i; fulls = same-fulls i }
+  pub walls-alike : v ≡ u
+  walls-alike i = record { header = e i; buckets = buckets-alike i; fulls = fulls-alike i }

@@ -17,10 +17,11 @@ use Rattle.model.proofs.Headers.{Limits, good-of, eq-eqb}
 use Rattle.model.proofs.SoundWalls.{check-sound}
 use Rattle.model.proofs.Needed.{needed-crowded}
 use Rattle.model.proofs.Demand2.{Tabled}
-use Rattle.model.proofs.Demand3.{accepted-list, after-list, accepted-alike, ends-alike, next-after}
+use Rattle.model.proofs.Demand3.{fresh-on, accepted-list, after-list, accepted-alike, ends-alike, next-after}
+use Rattle.model.proofs.Known.{run-known}
 use Rattle.model.proofs.Starts.{raised-iff, raised-words, closed-iff, closed-words, cleared, prefix}
 use Rattle.demands.specs.DemandTwo.{Accepted}
-use Rattle.demands.specs.DemandThree.{Flows, Rearranged, none, skip, swap, then, After, Next, Listed, DemandThree}
+use Rattle.demands.specs.DemandThree.{Flows, Rearranged, none, skip, swap, then, After, Ends, Next, Listed, DemandThree}
 
 -- ---- the number of the next increment
 
@@ -58,13 +59,32 @@ relisted xs ys r y = go r
     go (swap {x = x} {y = z} {xs = xs}) = omega arith
     go (then p q) = go p ∙ go q
 
+reordered : (n : ℕ) {xs ys : List ℕ} → Rearranged xs ys → Flows n xs → Flows n ys
+reordered n none b = b
+reordered n (skip r) b = (b .0, reordered n r (b .1))
+reordered n swap b = (b .1 .0, (b .0, b .1 .1))
+reordered n (then p q) b = reordered n q (reordered n p b)
+
 -- ---- from the fresh wall of a header within its limits
 
 module _ (h : Header) (l : Limits (withTotals h 0 0)) (k : Tabled h) where
   afterwards : (ys : List ℕ) → Flows (flows h) ys → run (fresh h) ys .number ≡ 0 → After h ys (run (fresh h) ys .words)
   afterwards ys b e =
       let a = after-list h l k ys b e in
-      record { counts = a .counts; header = a .header; flags = a .flags; needed = a .needed; accepted = a .accepted }
+      record { counts = a .counts; header = a .header; flags = a .flags; tallied = a .tallied; needed = a .needed; accepted = a .accepted }
+
+  known : (ys : List ℕ) → run (fresh h) ys .number ≡ 0 → Flows (flows h) ys
+  known ys e = run-known h ys [] (fresh h) (fresh-on h l k) e
+
+  ends : (xs ys : List ℕ) → Flows (flows h) xs → Flows (flows h) ys → ((y : ℕ) → y < flows h → listed y xs ≡ listed y ys) → run (fresh h) xs .number ≡ 0 → Ends h (run (fresh h) xs .words) (run (fresh h) ys .words)
+  ends xs ys bx by f e = let a = ends-alike h l k xs ys bx by f e in record { counts = a .counts; header = a .header; flags = a .flags }
+
+  any-order : (xs ys : List ℕ) → Rearranged xs ys → run (fresh h) xs .number ≡ 0 → (run (fresh h) ys .number ≡ 0) × Ends h (run (fresh h) xs .words) (run (fresh h) ys .words)
+  any-order xs ys r e =
+      let bx = known xs e in
+      let by = reordered (flows h) r bx in
+      let f : (y : ℕ) → y < flows h → listed y xs ≡ listed y ys = λ y m. relisted xs ys r y in
+      (accepted-alike h l k xs ys bx by f e, ends xs ys bx by f e)
 
   fresh-listed : Listed h (fresh h)
   fresh-listed = record {
@@ -72,7 +92,9 @@ module _ (h : Header) (l : Limits (withTotals h 0 0)) (k : Tabled h) where
     orders = accepted-alike h l k;
     prefixes = λ xs ys. prefix xs ys (fresh h);
     after = afterwards;
-    ends = λ xs ys bx by f e. let a = ends-alike h l k xs ys bx by f e in record { counts = a .counts; header = a .header; flags = a .flags };
+    known = known;
+    any-order = any-order;
+    ends = ends;
     next = λ ys b e y m. subst (Next (length ys) (h .limit) (crowdedBuckets h (y ∷ ys)) (h .full)) (sym (next-after h l k ys b e y m)) (next-of (length ys) (h .limit) (crowdedBuckets h (y ∷ ys)) (h .full));
   }
 

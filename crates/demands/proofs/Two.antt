@@ -3,17 +3,19 @@ use mathlib.Core.Path.{_≡_, sym, ap, _∙_}
 use mathlib.Core.List.{List, _++_}
 use Prim.Native.Nat.{ℕ, _+_, _<_}
 use lib.Dec.{lit<}
-use Rattle.model.specs.Walls.{bucketsIn, flatten, parse}
-use Rattle.model.specs.Sound.{flag, bucketAt, count}
+use lib.ListN.{getD}
+use Rattle.model.specs.Lists.{byMark}
+use Rattle.model.specs.Walls.{Full, Wall, bucketsIn, flatten, parse, emptyFull}
+use Rattle.model.specs.Sound.{flag, fullNumber, movedAt, bucketAt, fullFor, count}
 use Rattle.model.specs.Calls.{Clear, Outcome, firstMet, bucketRefusals, stepRefusals, raisedBy, lookup, increment}
 use Rattle.model.proofs.Lists.{below-at}
 use Rattle.model.proofs.Parsing.{flatten-parse}
 use Rattle.model.proofs.SoundWalls.{check-sound}
 use Rattle.model.proofs.Refusals.{first-clear, answer-done}
 use Rattle.model.proofs.Demand2.{increment-raises, lookup-count}
-use Rattle.demands.specs.DemandTwo.{Accepted, Words, Raised, Laid, Alike, DemandTwo}
+use Rattle.demands.specs.DemandTwo.{Accepted, Words, Raised, Laid, Alike, Agree, DemandTwo}
 use Rattle.demands.proofs.Own.{own-raised}
-use Rattle.demands.proofs.Laid.{words-below, first-below, laid-of, same-walls}
+use Rattle.demands.proofs.Laid.{number-none, words-below, first-below, full-below, at-counts, in-both, counts-alike, laid-of, walls-alike}
 
 laid : (ws : List ℕ) → Words ws → Accepted ws → (i : ℕ) → i < bucketsIn (parse ws .header) → Laid (parse ws) i
 laid ws h ok i li = laid-of (parse ws) (check-sound ws .0 ok .1) i li (first-below ws h i li)
@@ -22,16 +24,35 @@ laid ws h ok i li = laid-of (parse ws) (check-sound ws .0 ok .1) i li (first-bel
 back : (ws : List ℕ) → Words ws → Accepted ws → flatten (parse ws) ≡ ws
 back ws h ok = flatten-parse ws (check-sound ws .0 ok .0) (below-at ws 0 (lit< tt) (words-below ws h))
 
-same-words : (ws us : List ℕ) → Words ws → Words us → Accepted ws → Accepted us → Alike ws us → ws ≡ us
-same-words ws us h k ok good a =
-    let zu : (i : ℕ) → i < bucketsIn (parse us .header) → flag (bucketAt (parse us) i) ≡ 0 = λ i l. a .plain i (rw (a .header) l) .1 in
+determined : (ws us : List ℕ) → Words ws → Words us → Accepted ws → Accepted us → Agree ws us → ws ≡ us
+determined ws us h k ok good a =
     sym (back ws h ok)
-    ∙ ap flatten (same-walls (parse ws) (parse us) (check-sound ws .0 ok .1) (check-sound us .0 good .1) (a .header) (λ i l. a .plain i l .0) zu
-    (λ i l. laid ws h ok i l .plain (a .plain i l .0)) (λ i l. laid us k good i l .plain (zu i l)) (a .counts))
+    ∙ ap flatten (walls-alike (parse ws) (parse us) (check-sound ws .0 ok .1) (check-sound us .0 good .1) (a .header) (first-below ws h) (first-below us k) (full-below ws h) (full-below us k)
+    (a .flags) (a .numbers) (a .own) (a .moved) (a .counts))
     ∙ back us k good
 
+-- walls without flags agree in all where they count alike
+agree-plain : (ws us : List ℕ) → Accepted ws → Accepted us → Alike ws us → Agree ws us
+agree-plain ws us ok good a =
+    let v : Wall = parse ws in
+    let u : Wall = parse us in
+    let s = check-sound ws .0 ok .1 in
+    let r = check-sound us .0 good .1 in
+    let both = in-both v u s r (a .header) (a .counts) in
+    let none : (w : Wall) (i : ℕ) → flag (bucketAt w i) ≡ 0 → fullFor w i ≡ emptyFull = λ w i z. ap (λ m. byMark m emptyFull (getD (w .fulls) (fullNumber (bucketAt w i)) emptyFull)) z in
+    record {
+      header = a .header;
+      flags = λ i l. a .plain i l .0 ∙ sym (a .plain i l .1);
+      numbers = λ i l. number-none (s .each i l) (a .plain i l .0) ∙ sym (number-none (r .each i (both i l)) (a .plain i l .1));
+      own = λ i l. sym (at-counts v s i l (a .plain i l .0)) ∙ counts-alike v u s r (a .header) (a .counts) i l ∙ at-counts u r i (both i l) (a .plain i l .1);
+      moved = λ i p l _. ap (λ (f : Full). movedAt f p) (none v i (a .plain i l .0) ∙ sym (none u i (a .plain i l .1)));
+      counts = a .counts;
+    }
+
 raises : (ws : List ℕ) (y : ℕ) → Accepted ws → increment ws y .number ≡ 0 → Raised ws y (increment ws y)
-raises ws y ok e = let r = increment-raises ws y ok e in record { value = r .value; here = r .here; there = r .there; header = r .header; accepted = r .accepted }
+raises ws y ok e =
+    let r = increment-raises ws y ok e in
+    record { value = r .value; here = r .here; there = r .there; header = r .header; accepted = r .accepted; used = r .used; others = r .others }
 
 own-reads : (ws : List ℕ) (y : ℕ) → Clear (bucketRefusals ws y) → lookup ws y ≡ record { number = 0; value = count (parse ws) y; words = ws }
 unfolding lookup
@@ -53,7 +74,8 @@ demand-two = record {
   reads = lookup-count;
   raises = raises;
   laid = laid;
-  same-words = same-words;
+  same-words = λ ws us h k ok good a. determined ws us h k ok good (agree-plain ws us ok good a);
+  determined = determined;
   own-reads = own-reads;
   own-raises = own-raises;
 }

@@ -7,7 +7,7 @@ use lib.ListN.{length}
 use Rattle.model.specs.Lists.{oneIf}
 use Rattle.model.specs.Levels.{crowded}
 use Rattle.model.specs.Walls.{Header, flows, bucketsIn, withTotals, readHeader, parse}
-use Rattle.model.specs.Sound.{flag, bucketAt, count}
+use Rattle.model.specs.Sound.{flag, bucketAt, countsAt, count}
 use Rattle.model.specs.Need.{Needed}
 use Rattle.model.specs.Calls.{asked, raise, close, increment}
 use Rattle.model.specs.Runs.{run, listed, slots, tallies, crowdedBuckets}
@@ -31,6 +31,8 @@ pub record After (h : Header) (ys ws : List ℕ) : Type 0 where
   pub counts : (y : ℕ) → y < flows h → count (parse ws) y ≡ listed y ys
   pub header : parse ws .header ≡ withTotals h (length ys) (crowdedBuckets h ys)
   pub flags : (i : ℕ) → i < bucketsIn h → flag (bucketAt (parse ws) i) ≡ oneIf (crowded (h .width) (h .rows) (tallies i (slots h ys)))
+  -- the counts of a bucket are the listings of its places
+  pub tallied : (i : ℕ) → i < bucketsIn h → countsAt (parse ws) i ≡ tallies i (slots h ys)
   pub needed : (i : ℕ) → i < bucketsIn h → flag (bucketAt (parse ws) i) ≡ 1 → Needed (parse ws) i
   pub accepted : Accepted ws
 
@@ -54,6 +56,9 @@ pub record Listed (h : Header) (ws : List ℕ) : Type 0 where
   -- (b) if one order is accepted every order is, and every prefix
   pub orders : (xs ys : List ℕ) → Flows (flows h) xs → Flows (flows h) ys → ((y : ℕ) → y < flows h → listed y xs ≡ listed y ys) → run ws xs .number ≡ 0 → run ws ys .number ≡ 0
   pub prefixes : (xs ys : List ℕ) → run ws (xs ++ ys) .number ≡ 0 → run ws xs .number ≡ 0
+  -- an accepted list has known flows only, so every rearrangement of it is accepted too, and ends alike
+  pub known : (ys : List ℕ) → run ws ys .number ≡ 0 → Flows (flows h) ys
+  pub any-order : (xs ys : List ℕ) → Rearranged xs ys → run ws xs .number ≡ 0 → (run ws ys .number ≡ 0) × Ends h (run ws xs .words) (run ws ys .words)
   -- (c)
   pub after : (ys : List ℕ) → Flows (flows h) ys → run ws ys .number ≡ 0 → After h ys (run ws ys .words)
   -- (d)

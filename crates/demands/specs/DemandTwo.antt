@@ -3,9 +3,10 @@ use mathlib.Core.Logic.{_≢_}
 use mathlib.Core.Path.{_≡_}
 use mathlib.Core.List.{List, [], _∷_, _++_}
 use Prim.Native.Nat.{ℕ, _+_, _^_, _<_}
-use Rattle.model.specs.Walls.{Wall, flows, bucketsIn, withTotals, parse}
+use Rattle.model.specs.Lists.{oneIf}
+use Rattle.model.specs.Walls.{Wall, bucketOf, placeOf, flows, bucketsIn, withTotals, parse}
 use Rattle.model.specs.Sound.{flag, fullNumber, bucketAt, ownAt, countsAt, fullFor, movedAt, fullCount, count}
-use Rattle.model.specs.Calls.{Outcome, Clear, bucketRefusals, stepRefusals, holding, overflowed, lookup, increment, check}
+use Rattle.model.specs.Calls.{Outcome, Clear, bucketRefusals, stepRefusals, overflows, holding, overflowed, lookup, increment, check}
 use lib.ListN.{getD}
 
 abbrev pub Accepted : List ℕ → Type 0
@@ -17,13 +18,15 @@ Words [] = Unit {0}
 Words (w ∷ ws) = (w < 2 ^ 64) × Words ws
 
 -- what an accepted increment of flow y leaves of a wall that the check accepts: one count and the total one more, every other count as it
--- was, and a wall that the check accepts
+-- was, and a wall that the check accepts; U one more exactly where the bucket must overflow; every other bucket and its full-size bucket as they were
 pub record Raised (ws : List ℕ) (y : ℕ) (r : Outcome) : Type 0 where
   pub value : r .value ≡ count (parse ws) y + 1
   pub here : count (parse (r .words)) y ≡ count (parse ws) y + 1
   pub there : (z : ℕ) → z < flows (parse ws .header) → z ≢ y → count (parse (r .words)) z ≡ count (parse ws) z
   pub header : parse (r .words) .header ≡ withTotals (parse ws .header) (parse ws .header .total + 1) (parse (r .words) .header .used)
   pub accepted : Accepted (r .words)
+  pub used : parse (r .words) .header .used ≡ parse ws .header .used + oneIf (overflows (parse ws) (bucketOf (parse ws .header) y) (placeOf (parse ws .header) y) (count (parse ws) y + 1))
+  pub others : (i : ℕ) → i < bucketsIn (parse ws .header) → i ≢ bucketOf (parse ws .header) y → (bucketAt (parse (r .words)) i ≡ bucketAt (parse ws) i) × (fullFor (parse (r .words)) i ≡ fullFor (parse ws) i)
 
 -- the words of a bucket of such a wall are the only ones that the layout allows: without the flag the encoding of its counts; with it that
 -- of its own counts with the flag and the number, and in its full-size bucket a count for each moved place and 0 for each other
@@ -39,11 +42,22 @@ pub record Alike (ws us : List ℕ) : Type 0 where
   pub plain : (i : ℕ) → i < bucketsIn (parse ws .header) → (flag (bucketAt (parse ws) i) ≡ 0) × (flag (bucketAt (parse us) i) ≡ 0)
   pub counts : (y : ℕ) → y < flows (parse ws .header) → count (parse ws) y ≡ count (parse us) y
 
+-- two accepted walls of one header with the same counts, flags, numbers, own counts and moved places
+pub record Agree (ws us : List ℕ) : Type 0 where
+  pub header : parse ws .header ≡ parse us .header
+  pub flags : (i : ℕ) → i < bucketsIn (parse ws .header) → flag (bucketAt (parse ws) i) ≡ flag (bucketAt (parse us) i)
+  pub numbers : (i : ℕ) → i < bucketsIn (parse ws .header) → fullNumber (bucketAt (parse ws) i) ≡ fullNumber (bucketAt (parse us) i)
+  pub own : (i : ℕ) → i < bucketsIn (parse ws .header) → ownAt (parse ws) i ≡ ownAt (parse us) i
+  pub moved : (i a : ℕ) → i < bucketsIn (parse ws .header) → a < 64 → movedAt (fullFor (parse ws) i) a ≡ movedAt (fullFor (parse us) i) a
+  pub counts : (y : ℕ) → y < flows (parse ws .header) → count (parse ws) y ≡ count (parse us) y
+
 pub record DemandTwo : Type 0 where
   pub reads : (ws : List ℕ) (y : ℕ) → Accepted ws → y < flows (parse ws .header) → lookup ws y ≡ record { number = 0; value = count (parse ws) y; words = ws }
   pub raises : (ws : List ℕ) (y : ℕ) → Accepted ws → increment ws y .number ≡ 0 → Raised ws y (increment ws y)
   pub laid : (ws : List ℕ) → Words ws → Accepted ws → (i : ℕ) → i < bucketsIn (parse ws .header) → Laid (parse ws) i
   pub same-words : (ws us : List ℕ) → Words ws → Words us → Accepted ws → Accepted us → Alike ws us → ws ≡ us
+  -- with flags too: nothing else is left open
+  pub determined : (ws us : List ℕ) → Words ws → Words us → Accepted ws → Accepted us → Agree ws us → ws ≡ us
   -- on any words whose own bucket is sound, accepted by the check or not
   pub own-reads : (ws : List ℕ) (y : ℕ) → Clear (bucketRefusals ws y) → lookup ws y ≡ record { number = 0; value = count (parse ws) y; words = ws }
   pub own-raises : (ws : List ℕ) (y : ℕ) → Clear (bucketRefusals ws y ++ stepRefusals (parse ws) y)

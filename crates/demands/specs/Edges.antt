@@ -47,7 +47,7 @@ pub record Edges : Type 0 where
   pub p7-used : getD (run (new 100 1 74) (sixteen ++ (15 ∷ [])) .words) 3 0 ≡ 1 + 2 ^ 16
   pub p8 : said (lookup (run (new 100 1 74) (sixteen ++ (15 ∷ [])) .words) 0) ++ said (increment (run (new 100 1 74) (sixteen ++ (15 ∷ [])) .words) 0)
       ≡ 0 ∷ 2 ∷ 0 ∷ 3 ∷ []
-  pub p9 : run (new 1 0 9) (times 2 1) .number ≡ 10
+  pub p9 : run (new 1 0 9) (times 1 1) .number ∷ said (increment (run (new 1 0 9) (times 1 1) .words) 1) ≡ 0 ∷ 10 ∷ 0 ∷ []
   pub p10 : said (increment (run (new 31 0 9) sixteen .words) 15) ≡ 10 ∷ 0 ∷ []
   pub sound : check (run (new 100 1 74) (sixteen ++ (15 ∷ [])) .words) .number ≡ 0
   pub limit : raise 3 1 6 262143 0 (replicate 9 0) .number ∷ raise 3 1 6 262144 0 (replicate 9 0) .number ∷ [] ≡ 0 ∷ 4 ∷ []

@@ -10,11 +10,11 @@ use lib.Dec.{T, eqb, nleb→lt, eqb-refl, lit<, T-not}
 use lib.Arith.{lt→nleb, lt-of-le-ne}
 use lib.ListN.{length, getD, length-append, length-map}
 use lib.Seq.{getD-set-same, getD-set-other}
-use Rattle.model.specs.Lists.{byMark, concat}
+use Rattle.model.specs.Lists.{oneIf, byMark, concat}
 use Rattle.model.specs.Shapes.{rowsOf}
 use Rattle.model.specs.Slots.{slot}
 use Rattle.model.specs.Walls.{Header, Wall, bucketsIn, flows, wallSize, bucketWords, fullWords, readHeader, good, flatten, parse, withTotals, bucketOf, placeOf}
-use Rattle.model.specs.Sound.{flag, bucketAt, countsAt, soundAt, count}
+use Rattle.model.specs.Sound.{flag, bucketAt, fullFor, countsAt, soundAt, count}
 use Rattle.model.specs.Calls.{Clear, Outcome, firstMet, noRoom, overflows, bucketRefusals, stepRefusals, raisedBy, lookup, increment, check}
 use Rattle.model.proofs.Tests.{every-at}
 use Rattle.model.proofs.Slots.{slot-inj}
@@ -134,12 +134,14 @@ abbrev pub Accepted : List ℕ → Type 0
 Accepted ws = check ws .number ≡ 0
 
 -- what an accepted increment of flow y by d leaves
-pub record Raised (ws : List ℕ) (y d : ℕ) (r : Outcome) : Type 0 where
+pub record RaisedBy (ws : List ℕ) (y d : ℕ) (r : Outcome) : Type 0 where
   pub accepted : Accepted (r .words)
   pub value : r .value ≡ count (parse ws) y + d
   pub header : parse (r .words) .header ≡ withTotals (parse ws .header) (parse ws .header .total + d) (parse (r .words) .header .used)
   pub here : count (parse (r .words)) y ≡ count (parse ws) y + d
   pub there : (z : ℕ) → z < flows (parse ws .header) → z ≢ y → count (parse (r .words)) z ≡ count (parse ws) z
+  pub used : parse (r .words) .header .used ≡ parse ws .header .used + oneIf (overflows (parse ws) (bucketOf (parse ws .header) y) (placeOf (parse ws .header) y) (count (parse ws) y + d))
+  pub others : (k : ℕ) → k < bucketsIn (parse ws .header) → k ≢ bucketOf (parse ws .header) y → (bucketAt (parse (r .words)) k ≡ bucketAt (parse ws) k) × (fullFor (parse (r .words)) k ≡ fullFor (parse ws) k)
 
 named : (ws : List ℕ) (y : ℕ) → Named (bucketRefusals ws y ++ stepRefusals (parse ws) y)
 named ws y = (lit< tt, (lit< tt, (lit< tt, (lit< tt, (lit< tt, (lit< tt, tt))))))
@@ -163,7 +165,8 @@ follows ws y e =
     }
 
 pub raises-by : (ws : List ℕ) (y d : ℕ) (s : SoundWall (parse ws)) → 1 ≤ d → y < flows (parse ws .header) → Free (parse ws) y s d
-    → Raised ws y d (record { number = 0; value = count (parse ws) y + d; words = flatten (raisedBy (parse ws) y d) })
+    → RaisedBy ws y d (record { number = 0; value = count (parse ws) y + d; words = flatten (raisedBy (parse ws) y d) })
+unfolding count
 raises-by ws y d s p l f =
     let v : Wall = raisedBy (parse ws) y d in
     let t = more-stepped (parse ws) y s d p f in
@@ -175,13 +178,15 @@ raises-by ws y d s p l f =
       header = ap (λ (v : Wall). v .header) q ∙ t .header ∙ ap (λ (v : Wall). withTotals (parse ws .header) (parse ws .header .total + d) (v .header .used)) (sym q);
       here = ap (λ v. count v y) q ∙ count-here (parse ws) v y d t (s .limits .bits-low);
       there = λ z h n. ap (λ v. count v z) q ∙ count-there (parse ws) v y d t (s .limits .bits-low) z l h n;
+      used = ap (λ (v : Wall). v .header .used) q ∙ t .used;
+      others = λ k h n. (ap (λ (v : Wall). bucketAt v k) q ∙ t .others k h n .0, ap (λ (v : Wall). fullFor v k) q ∙ t .others k h n .1);
     }
 
-pub increment-raises : (ws : List ℕ) (y : ℕ) → Accepted ws → increment ws y .number ≡ 0 → Raised ws y 1 (increment ws y)
+pub increment-raises : (ws : List ℕ) (y : ℕ) → Accepted ws → increment ws y .number ≡ 0 → RaisedBy ws y 1 (increment ws y)
 increment-raises ws y ok e =
     let f = follows ws y e in
     let s = check-sound ws .0 ok .1 in
-    subst (Raised ws y 1) (sym (f .same)) (raises-by ws y 1 s (le-refl 1) (f .flow) (f .free s))
+    subst (RaisedBy ws y 1) (sym (f .same)) (raises-by ws y 1 s (le-refl 1) (f .flow) (f .free s))
 
 -- on an accepted wall none of 7, 8 and 9 is met for a flow of the wall
 pub own-clear : (ws : List ℕ) (y : ℕ) → Accepted ws → y < flows (parse ws .header) → Clear (bucketRefusals ws y)

@@ -158,6 +158,7 @@ pub record After (h : Header) (ys : List ℕ) (ws : List ℕ) : Type 0 where
   pub accepted : Accepted ws
   pub header : parse ws .header ≡ withTotals h (length ys) (crowdedBuckets h ys)
   pub counts : (y : ℕ) → y < flows h → count (parse ws) y ≡ listed y ys
+  pub tallied : (k : ℕ) → k < bucketsIn h → countsAt (parse ws) k ≡ tallies k (slots h ys)
   pub flags : (k : ℕ) → k < bucketsIn h → flag (bucketAt (parse ws) k) ≡ oneIf (crowded (h .width) (h .rows) (tallies k (slots h ys)))
   pub needed : (k : ℕ) → k < bucketsIn h → flag (bucketAt (parse ws) k) ≡ 1 → Needed (parse ws) k
 
@@ -217,6 +218,7 @@ module _ (h : Header) (l : Limits (withTotals h 0 0)) (k : Tabled h) where
             ∙ ap (λ c. getD c (x % 64) 0) (r .counts (x / 64) (bucket-lt (h .bits) y (l .bits-low)) ∙ rev-tally ys (x / 64))
             ∙ getD-tab 64 (λ a. listed (x / 64 * 64 + a) (slots h ys)) (x % 64) (mod-lt x (lit< tt))
             ∙ ap (λ s. listed s (slots h ys)) (at-slot x) ∙ listed-slots (h .bits) y ys m b;
+        tallied = λ k m. r .counts k m ∙ rev-tally ys k;
         flags = λ k m. r .flags k m ∙ ap (λ c. oneIf (crowded (h .width) (h .rows) c)) (rev-tally ys k);
         needed = λ k m. r .needed k (subst (λ (g : Header). k < bucketsIn g) (sym (r .header)) m);
       }

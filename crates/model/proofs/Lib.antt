@@ -31,3 +31,6 @@ pub mod Demand3
 pub mod Starts
 pub mod Bridge
 pub mod Written
+pub mod Images
+pub mod Known
+pub mod Uses

@@ -187,7 +187,7 @@ module _ (h : Header) (t u : ℕ) (bs : List Bucket) (fs : List Full) (xs : List
     counts = λ k l. by-eq k i (λ e. ap (countsAt (raisedBy v y d)) e ∙ here s ∙ ap (λ n. tallies n zs) (sym e)) (λ z. s .there k l z ∙ r .counts k l ∙ sym (again-there d k x xs z));
     flags = λ k l. by-eq k i
         (λ e. ap (λ n. flag (bucketAt (raisedBy v y d) n)) e ∙ s .flag-here ∙ flagged ∙ ap (λ n. oneIf (crowded (h .width) (h .rows) (tallies n zs))) (sym e))
-        (λ z. s .flag-there k l z ∙ r .flags k l ∙ ap (λ l. oneIf (crowded (h .width) (h .rows) l)) (sym (again-there d k x xs z)));
+        (λ z. ap flag (s .others k l z .0) ∙ r .flags k l ∙ ap (λ l. oneIf (crowded (h .width) (h .rows) l)) (sym (again-there d k x xs z)));
     needed = s .needed (r .needed);
   }
 

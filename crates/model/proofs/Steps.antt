@@ -4,7 +4,7 @@ use mathlib.Core.Path.{_≡_, refl, sym, ap, ap₂, _∙_, subst, subst₂}
 use mathlib.Core.Bool.{Bool, true, false, not}
 use mathlib.Core.List.{List}
 use Prim.Native.Nat.{ℕ, zero, suc, _+_, _≤_, _<_}
-use native.Mathlib.Nat.{le-of-eq, le-refl, not-suc-le-zero, zero-lt-suc}
+use native.Mathlib.Nat.{add-zero, le-of-eq, not-suc-le-zero, zero-lt-suc}
 use native.Mathlib.Omega.{arith}
 use lib.Dec.{T, eqb, eqb→eq}
 use lib.ListN.{length, getD, set, length-set, length-replicate}
@@ -14,7 +14,7 @@ use Rattle.model.specs.Shapes.{Row, row, allRows}
 use Rattle.model.specs.Levels.{crowded}
 use Rattle.model.specs.Walls.{Bucket, Full, Wall, bucketsIn, emptyFull, emptyBucket, withTotals, wall}
 use Rattle.model.specs.Sound.{flag, fullNumber, ownCounts, fullOf, bucketCounts, bucketAt, ownAt, fullFor, countsAt, holdsNumber, holders, allCounts, isEmptyFull}
-use Rattle.model.specs.Calls.{noRoom, step, holding, overflowed, moveIn}
+use Rattle.model.specs.Calls.{noRoom, overflows, step, holding, overflowed, moveIn}
 use Rattle.model.proofs.Coding.{Fits}
 use Rattle.model.proofs.Crowding.{bucket-fits, T-true}
 use Rattle.model.proofs.Tools.{by-eq}
@@ -35,7 +35,8 @@ pub record Stepped (x : Wall) (i a d : ℕ) (y : Wall) : Type 0 where
   pub here : countsAt y i ≡ set (countsAt x i) a (getD (countsAt x i) a 0 + d)
   pub there : (k : ℕ) → k < bucketsIn (x .header) → k ≢ i → countsAt y k ≡ countsAt x k
   pub flag-here : flag (bucketAt y i) ≡ byMark (flag (bucketAt x i)) (oneIf (noRoom x i a (getD (countsAt x i) a 0 + d))) (flag (bucketAt x i))
-  pub flag-there : (k : ℕ) → k < bucketsIn (x .header) → k ≢ i → flag (bucketAt y k) ≡ flag (bucketAt x k)
+  pub used : y .header .used ≡ x .header .used + oneIf (overflows x i a (getD (countsAt x i) a 0 + d))
+  pub others : (k : ℕ) → k < bucketsIn (x .header) → k ≢ i → (bucketAt y k ≡ bucketAt x k) × (fullFor y k ≡ fullFor x k)
   pub needed : AllNeeded x → AllNeeded y
 
 -- ---- flags and numbers
@@ -83,7 +84,7 @@ module _ (x : Wall) (s : SoundWall x) (i a d : ℕ) (li : i < bucketsIn (x .head
   -- bucket i is as it should be, and the others and their full-size buckets stay
   record Local (u : ℕ) (bs : List Bucket) (fs : List Full) : Type 0 where
     shaped : Shaped (next u bs fs)
-    most : x .header .used ≤ u
+    used : u ≡ x .header .used + oneIf (overflows x i a (c + d))
     spare : u ≤ x .header .full
     buckets : (k : ℕ) → k < bucketsIn (x .header) → k ≢ i → bucketAt (next u bs fs) k ≡ bucketAt x k
     fulls : (k : ℕ) → k < bucketsIn (x .header) → k ≢ i → fullOf fs (bucketAt x k) ≡ fullFor x k
@@ -99,6 +100,9 @@ module _ (x : Wall) (s : SoundWall x) (i a d : ℕ) (li : i < bucketsIn (x .head
   sum-here = omega (arith, sum-set (countsAt x i) a (c + d) (rw length-countsAt la))
 
   module _ (u : ℕ) (bs : List Bucket) (fs : List Full) (l : Local u bs fs) where
+    full-other : (k : ℕ) → k < bucketsIn (x .header) → k ≢ i → fullFor (next u bs fs) k ≡ fullFor x k
+    full-other k h z = ap (fullOf fs) (l .buckets k h z) ∙ l .fulls k h z
+
     other : (k : ℕ) → k < bucketsIn (x .header) → k ≢ i → countsAt (next u bs fs) k ≡ countsAt x k
     unfolding countsAt
     other k h z =
@@ -136,8 +140,8 @@ module _ (x : Wall) (s : SoundWall x) (i a d : ℕ) (li : i < bucketsIn (x .head
         };
         each = λ k h. by-eq k i
             (λ e. subst (λ n. SoundB (x .header .width) (x .header .rows) (x .header .total + d) u (bucketAt (next u bs fs) n) (fullFor (next u bs fs) n)) (sym e) (l .sound))
-            (λ z. subst₂ (λ b f. SoundB (x .header .width) (x .header .rows) (x .header .total + d) u b f) (sym (l .buckets k h z)) (sym (ap (fullOf fs) (l .buckets k h z) ∙ l .fulls k h z))
-            (sound-more (x .header .total + d) u (omega arith) (l .most) (s .each k h)));
+            (λ z. subst₂ (λ b f. SoundB (x .header .width) (x .header .rows) (x .header .total + d) u b f) (sym (l .buckets k h z)) (sym (full-other k h z))
+            (sound-more (x .header .total + d) u (omega arith) (omega (arith, l .used)) (s .each k h)));
         sums = sums;
         held = l .held;
         zeros = l .zeros;
@@ -146,10 +150,11 @@ module _ (x : Wall) (s : SoundWall x) (i a d : ℕ) (li : i < bucketsIn (x .head
       here = l .counts;
       there = other;
       flag-here = l .flagged;
-      flag-there = λ k h z. ap flag (l .buckets k h z);
+      used = l .used;
+      others = λ k h z. (l .buckets k h z, full-other k h z);
       needed = λ n k h e. by-eq k i
           (λ z. subst (Needed (next u bs fs)) (sym z) (l .needed (n i li) (ap (λ j. flag (bucketAt (next u bs fs) j)) (sym z) ∙ e)))
-          (λ z. subst₂ (λ b f. neededFrom (x .header .width) (x .header .rows) (ownCounts (x .header .width) (x .header .rows) b) f) (sym (l .buckets k h z)) (sym (ap (fullOf fs) (l .buckets k h z) ∙ l .fulls k h z))
+          (λ z. subst₂ (λ b f. neededFrom (x .header .width) (x .header .rows) (ownCounts (x .header .width) (x .header .rows) b) f) (sym (l .buckets k h z)) (sym (full-other k h z))
           (n k h (ap flag (sym (l .buckets k h z)) ∙ e)));
     }
 
@@ -175,6 +180,10 @@ module _ (x : Wall) (s : SoundWall x) (i a d : ℕ) (li : i < bucketsIn (x .head
 
   at-other : (b′ : Bucket) (k : ℕ) → k ≢ i → getD (set (x .buckets) i b′) k (emptyBucket w rs) ≡ bucketAt x k
   at-other b′ k z = getD-set-other (x .buckets) i k b′ (emptyBucket w rs) z
+
+  -- U rises by one exactly where the bucket overflows
+  used-by : (m : ℕ) {u : ℕ} {t : Bool} → flag b ≡ m → noRoom x i a (c + d) ≡ t → u ≡ x .header .used + oneIf (byMark m t false) → u ≡ x .header .used + oneIf (overflows x i a (c + d))
+  used-by m e t z = z ∙ ap₂ (λ m t. x .header .used + oneIf (byMark m t false)) (sym e) (sym t)
 
   most-here : sum (set (countsAt x i) a (c + d)) ≤ x .header .total + d
   most-here = own.most-here x (s .shaped) (s .limits) i a d li la (s .each i li) room
@@ -225,7 +234,7 @@ module _ (x : Wall) (s : SoundWall x) (i a d : ℕ) (li : i < bucketsIn (x .head
       held-local : Local (x .header .used) (set (x .buckets) i kept) (x .fulls)
       held-local = record {
         shaped = own.kept-held x (s .shaped) (s .limits) i a d li la (s .each i li) room e t .shaped;
-        most = le-refl (x .header .used);
+        used = used-by 0 e t (sym (add-zero (x .header .used)));
         spare = s .limits .spare-full;
         buckets = λ k h z. at-other kept k z;
         fulls = λ k h z. refl;
@@ -299,7 +308,7 @@ module _ (x : Wall) (s : SoundWall x) (i a d : ℕ) (li : i < bucketsIn (x .head
       over-local : Local (u + 1) bs fs
       over-local = record {
         shaped = own.kept-over x (s .shaped) (s .limits) i a d li la (s .each i li) room e free .shaped;
-        most = omega arith;
+        used = used-by 0 e t refl;
         spare = omega arith;
         buckets = λ k h z. at-other over k z;
         fulls = λ k h z. fullOf-set (x .fulls) u moved (bucketAt x k) (others k h);
@@ -359,7 +368,7 @@ module _ (x : Wall) (s : SoundWall x) (i a d : ℕ) (li : i < bucketsIn (x .head
     raised-local : Local (x .header .used) (x .buckets) fs′
     raised-local = record {
       shaped = own.kept-raised x (s .shaped) (s .limits) i a d li la (s .each i li) room m e .shaped;
-      most = le-refl (x .header .used);
+      used = used-by (suc m) e refl (sym (add-zero (x .header .used)));
       spare = s .limits .spare-full;
       buckets = λ k h z. refl;
       fulls = λ k h z. fullOf-set (x .fulls) n raised (bucketAt x k) (apart k h z);

@@ -1,5 +1,5 @@
 -- The levels of a bucket: what they hold, how they are read, when they are sound, and when counts crowd them.
-use mathlib.Core.Bool.{Bool, false, _||_}
+use mathlib.Core.Bool.{Bool, true, false, _||_}
 use mathlib.Core.List.{List, [], _∷_, map}
 use Prim.Native.Nat.{ℕ, zero, suc, _+_, _*_, _/_, _%_, _^_}
 use lib.Dec.{leb, ltb}
@@ -57,6 +57,19 @@ unfoldable pub readAt : List Row → List Level → ℕ → ℕ
 readAt [] ls a = 0
 readAt (r ∷ rs) [] a = 0
 readAt (r ∷ rs) (l ∷ ls) a = byMark (bit (l .marks) a) 0 (readAt rs ls (rank (l .marks) a)) * 2 ^ r .width + entry (r .width) (l .cells) a
+
+-- the counter at entry a of the first level has an entry d levels above it
+unfoldable pub uses : List Row → List Level → ℕ → ℕ → Bool
+uses rs ls a zero = true
+uses [] ls a (suc d) = false
+uses (r ∷ rs) [] a (suc d) = false
+uses (r ∷ rs) (l ∷ ls) a (suc d) = byMark (bit (l .marks) a) false (uses rs ls (rank (l .marks) a) d)
+
+-- the bits below the level that is d above the first
+abbrev pub start : List Row → ℕ → ℕ
+start rs zero = 0
+start [] (suc d) = 0
+start (r ∷ rs) (suc d) = r .width + start rs d
 
 -- ---- sound
 
