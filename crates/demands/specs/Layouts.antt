@@ -1,12 +1,13 @@
--- What the layout says beside demand 2: which counters use a level, and the bytes of an image.
+-- What the layout says beside demand 2: the parts of a count, which counters use a level, the bits of a counter, and the bytes of an image.
 use mathlib.Core.Logic.{_↔_}
 use mathlib.Core.Path.{_≡_}
 use mathlib.Core.List.{List}
-use Prim.Native.Nat.{ℕ, suc, _^_, _≤_, _<_}
+use Prim.Native.Nat.{ℕ, suc, _+_, _*_, _^_, _≤_, _<_}
 use lib.Dec.{T}
 use lib.ListN.{length, getD}
-use Rattle.model.specs.Shapes.{allRows}
-use Rattle.model.specs.Levels.{uses, start}
+use Rattle.model.specs.Lists.{sum, tabulate}
+use Rattle.model.specs.Shapes.{rowsOf, allRows, counterBits}
+use Rattle.model.specs.Levels.{uses, partAt, start}
 use Rattle.model.specs.Walls.{Wall, bucketsIn, parse}
 use Rattle.model.specs.Sound.{levelsOf, bucketAt, ownAt}
 use Rattle.model.specs.Calls.{imageCall, image}
@@ -20,7 +21,15 @@ UsesLevel v i a d = T (uses (allRows (v .header .width) (v .header .rows)) (leve
 abbrev pub below : Wall → ℕ → ℕ
 below v d = start (allRows (v .header .width) (v .header .rows)) d
 
+-- the part of that counter there, 0 where it has none
+abbrev pub part : Wall → ℕ → ℕ → ℕ → ℕ
+part v i a d = partAt (allRows (v .header .width) (v .header .rows)) (levelsOf (v .header .rows) (bucketAt v i)) a d
+
 pub record Layouts : Type 0 where
+  -- a bucket's own count is the sum of the parts of its p levels, each weighted by the bits below its level
+  pub weighted : (ws : List ℕ) (i a : ℕ) → a < 64 → getD (ownAt (parse ws) i) a 0 ≡ sum (tabulate (suc (length (parse ws .header .rows))) (λ d. part (parse ws) i a d * 2 ^ below (parse ws) d))
+  -- L of the three shapes
+  pub counters : (w : ℕ) → (counterBits w (rowsOf 3) ≡ w + 17) × (counterBits w (rowsOf 4) ≡ w + 18) × (counterBits w (rowsOf 5) ≡ w + 18)
   -- a level is used by exactly the counters of a value that does not fit below it
   pub levels : (ws : List ℕ) → Accepted ws → (i : ℕ) → i < bucketsIn (parse ws .header) → (a d : ℕ) → d < length (parse ws .header .rows)
       → UsesLevel (parse ws) i a (suc d) ↔ (2 ^ below (parse ws) (suc d) ≤ getD (ownAt (parse ws) i) a 0)

@@ -65,6 +65,13 @@ uses [] ls a (suc d) = false
 uses (r ∷ rs) [] a (suc d) = false
 uses (r ∷ rs) (l ∷ ls) a (suc d) = byMark (bit (l .marks) a) false (uses rs ls (rank (l .marks) a) d)
 
+-- its part there, 0 where it has none
+unfoldable pub partAt : List Row → List Level → ℕ → ℕ → ℕ
+partAt [] ls a d = 0
+partAt (r ∷ rs) [] a d = 0
+partAt (r ∷ rs) (l ∷ ls) a zero = entry (r .width) (l .cells) a
+partAt (r ∷ rs) (l ∷ ls) a (suc d) = byMark (bit (l .marks) a) 0 (partAt rs ls (rank (l .marks) a) d)
+
 -- the bits below the level that is d above the first
 abbrev pub start : List Row → ℕ → ℕ
 start rs zero = 0
