@@ -1,5 +1,4 @@
 pub mod Layouts
-pub mod Table
 pub mod One
 pub mod Own
 pub mod Laid

@@ -21,7 +21,6 @@ fresh-reads h ws l y m =
 
 pub beginnings : Beginnings
 beginnings = record {
-  one-outcome = λ call one other e f. e ∙ sym f;
   raised = raised-words;
   closed = closed-words;
   raised-reads = λ p w b m j ws e. fresh-reads (asked p w b m j) (raise p w b m j ws .words) (demand-three .raised p w b m j ws e);

@@ -1,13 +1,11 @@
--- Where walls begin, and that a contract leaves no choice.
+-- Where walls begin.
 use mathlib.Core.Path.{_≡_}
 use mathlib.Core.List.{List}
 use Prim.Native.Nat.{ℕ, _^_, _<_}
 use Rattle.model.specs.Walls.{flows, readHeader, fresh}
-use Rattle.model.specs.Calls.{Outcome, asked, raise, close, lookup}
+use Rattle.model.specs.Calls.{asked, raise, close, lookup}
 
 pub record Beginnings : Type 0 where
-  -- two outcomes that meet one contract, which says that they are the call's, are equal
-  pub one-outcome : (call one other : Outcome) → one ≡ call → other ≡ call → one ≡ other
   -- a wall raised is the fresh wall of the header asked for, a wall closed that of its own header
   pub raised : (p w b m j : ℕ) (ws : List ℕ) → raise p w b m j ws .number ≡ 0 → raise p w b m j ws .words ≡ fresh (asked p w b m j)
   pub closed : (ws : List ℕ) → close ws .number ≡ 0 → close ws .words ≡ fresh (readHeader ws)

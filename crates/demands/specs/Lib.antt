@@ -2,5 +2,4 @@ pub mod Layouts
 pub mod DemandOne
 pub mod DemandTwo
 pub mod DemandThree
-pub mod Edges
 pub mod Beginnings

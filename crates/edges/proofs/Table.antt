@@ -8,7 +8,7 @@ use Rattle.model.specs.Walls.{good, flatten, parse, fresh}
 use Rattle.model.specs.Sound.{ownCounts, bucketCounts, soundBucket, countsAt, count, soundAt, holders, allCounts, soundRest}
 use Rattle.model.specs.Calls.{raise, lookup, check, holding, overflowed, moveIn, noRoom, step, increment}
 use Rattle.model.specs.Runs.{run}
-use Rattle.demands.specs.Edges.{new, times, sixteen, bucket, said, Edges}
+use Rattle.edges.specs.Edges.{new, times, sixteen, bucket, said, Edges}
 
 -- the header's words for the limit m, the total t and the word f of J and U
 abbrev head : ℕ → ℕ → ℕ → List ℕ
