@@ -48,34 +48,6 @@ module _ (w : ℕ) (rs : List Row) (wide : Wide (allRows w rs)) (b : Bucket) (s 
         (λ t. r .1 (f .1 (t, atLeast-sum (2 ^ counterBits w rs) (set os a (getD os a 0 + 1)) (omega (arith, sum-set os a (getD os a 0 + 1) in-own))))),
       )
 
--- a place not yet moved: its flag is added; a place moved before: the flags stay
-pub flag-added : (f : Full) (a v : ℕ) → a < 64 → f .moved < 2 ^ 64 → movedAt f a ≡ 0 → moveIn f a v .moved ≡ f .moved + 2 ^ a
-unfolding moveIn
-flag-added f a v l h e =
-    let es : List ℕ = unpack 1 64 (f .moved) in
-    ap (λ n. pack 1 (set es a n)) (sym (zero-add 1) ∙ ap (λ n. n + 1) (sym (unpack-bit (f .moved) a l ∙ e)))
-    ∙ pack-raise 1 es a 1 (subst (λ n. a < n) (sym (length-unpack 1 64 (f .moved))) l)
-    ∙ ap₂ _+_ (pack-unpack 1 64 (f .moved) ∙ mod-eq-of-lt h) (one-mul (2 ^ (1 * a)) ∙ ap (λ n. 2 ^ n) (one-mul a))
-
-pub flag-stays : (f : Full) (a v : ℕ) → a < 64 → f .moved < 2 ^ 64 → movedAt f a ≡ 1 → moveIn f a v .moved ≡ f .moved
-unfolding moveIn
-flag-stays f a v l h e =
-    let es : List ℕ = unpack 1 64 (f .moved) in
-    ap (λ n. pack 1 (set es a n)) (sym (unpack-bit (f .moved) a l ∙ e)) ∙ ap (pack 1) (set-getD es a 0) ∙ pack-unpack 1 64 (f .moved) ∙ mod-eq-of-lt h
-
--- ---- what code reads off a bucket
-
-module _ (w : ℕ) (rs : List Row) (b : Bucket) where
-  -- a count by the walk of the levels, whose rank is the machine's count of ones
-  pub own-walk : (a : ℕ) → a < 64 → getD (ownCounts w rs b) a 0 ≡ read (allRows w rs) (levelsOf rs b) a
-  own-walk a l = ap (λ x. getD x a 0) (own-read w rs b) ∙ getD-tab 64 (read (allRows w rs) (levelsOf rs b)) a l
-
-  -- the sum of the counts by the sums of the levels' entries
-  pub own-total : Sound 0 (allRows w rs) 64 (levelsOf rs b) → total 0 (allRows w rs) 64 (levelsOf rs b) ≡ sum (ownCounts w rs b)
-  own-total s =
-      ap₂ (λ n ls. total 0 (allRows w rs) n ls) (sym (length-own w rs b)) (sym (own-coded w rs b s))
-      ∙ total-encode 0 (allRows w rs) (ownCounts w rs b) (own-fits w rs b s) ∙ mul-one (sum (ownCounts w rs b))
-
 -- the words of level 1 are those of its cells
 pub first-words : (ws : List ℕ) (w c : ℕ) → Below (2 ^ 64) ws → length ws ≡ w → pack 64 ws ≡ c → unpack 64 w c ≡ ws
 first-words ws w c h n e = ap₂ (unpack 64) (sym n) (sym e) ∙ unpack-pack 64 ws h

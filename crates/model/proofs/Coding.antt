@@ -79,10 +79,6 @@ fits-below (r ∷ rs) vs f a =
 pub read-fits : (rs : List Row) (vs : List ℕ) (a : ℕ) → Fits rs vs → read rs (encode rs vs) a ≡ getD vs a 0
 read-fits rs vs a f = read-encode rs vs a ∙ mod-eq-of-lt (fits-below rs vs f a)
 
-pub encode-inj : (rs : List Row) (us vs : List ℕ) → Fits rs us → Fits rs vs → length us ≡ length vs → encode rs us ≡ encode rs vs → us ≡ vs
-encode-inj rs us vs f g l e =
-    ext-getD 0 us vs l (λ i h. sym (read-fits rs us i f) ∙ ap (λ ls. read rs ls i) e ∙ read-fits rs vs i g)
-
 -- ---- sound levels, read as the document has it. n entries are used, and each value is at least lo: 0 on the first level, 1 above it.
 
 abbrev pub Sound : ℕ → List Row → ℕ → List Level → Type 0
@@ -182,14 +178,6 @@ sound-values lo (r ∷ rs) n (l ∷ ls) s =
       fits = (rw (o .number) (s .0), rw (o .next) (u .fits));
       coded = ap₂ _∷_ (ap₂ level (o .cells) (o .marks)) (ap (encode rs) (o .next) ∙ u .coded);
     }
-
--- the values are those that the walk reads, so sound levels are what their own reading encodes to
-pub sound-read : (lo : ℕ) (rs : List Row) (n : ℕ) (ls : List Level) → Sound lo rs n ls → encode rs (tabulate n (read rs ls)) ≡ ls
-sound-read lo rs n ls s =
-    let u = sound-values lo rs n ls s in
-    ap (encode rs) (sym (ext-getD 0 (u .values) (tabulate n (read rs ls)) (u .number ∙ sym (length-tab n (read rs ls))) (λ i h.
-    sym (read-fits rs (u .values) i (u .fits)) ∙ ap (λ x. read rs x i) (u .coded) ∙ sym (getD-tab n (read rs ls) i (le-trans h (le-of-eq (u .number)))))))
-    ∙ u .coded
 
 -- ---- the counts add up, level by level: the entries of a level at offset l weigh 2 ^ l each
 

@@ -143,17 +143,6 @@ under-length [] (v ∷ vs) h = absurd h
 under-length (u ∷ us) [] h = absurd h
 under-length (u ∷ us) (v ∷ vs) h = ap suc (under-length us vs (h .1))
 
--- what has room after a count has risen had room before
-pub fits-mono : (rs : List Row) (us vs : List ℕ) → Under us vs → Fits rs vs → Fits rs us
-fits-mono [] us vs h f = rw (under-length us vs h) f
-fits-mono (r ∷ rs) us vs h f =
-    let g = fits-uncrowded (r .width) rs vs (f .1) in (
-      rw (under-length us vs h) (f .0),
-      uncrowded-fits (r .width) rs us
-          (not-T (crowded (r .width) rs us) (λ t. T-not (crowded (r .width) rs vs) (g .0) (crowded-mono (r .width) rs us vs h t)))
-          (le-trans (atLeast-mono (2 ^ counterBits (r .width) rs) us vs h) (g .1)),
-    )
-
 -- ---- a whole bucket: its first row has an entry for each count, and the document's rule is of the rows after it
 
 pub bucket-fits : (r : Row) (rs : List Row) (vs : List ℕ) → length vs ≤ r .entries

@@ -210,10 +210,3 @@ own-clear ws y ok h =
 pub lookup-count : (ws : List ℕ) (y : ℕ) → Accepted ws → y < flows (parse ws .header) → lookup ws y ≡ record { number = 0; value = count (parse ws) y; words = ws }
 unfolding lookup
 lookup-count ws y ok h = answer-done (count (parse ws) y) ws ws (firstMet (bucketRefusals ws y)) (first-clear (bucketRefusals ws y) (own-clear ws y ok h))
-
--- and the number is that of the step alone
-pub increment-no : (ws : List ℕ) (y : ℕ) → Accepted ws → y < flows (parse ws .header) → increment ws y .number ≡ firstMet (stepRefusals (parse ws) y)
-unfolding increment
-increment-no ws y ok h =
-    answer-no (count (parse ws) y + 1) (flatten (raisedBy (parse ws) y 1)) ws (firstMet (bucketRefusals ws y ++ stepRefusals (parse ws) y))
-    ∙ first-skip (bucketRefusals ws y) (stepRefusals (parse ws) y) (own-clear ws y ok h)

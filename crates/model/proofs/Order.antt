@@ -132,9 +132,3 @@ module _ (k h l : ℕ) (rs : List Row) (M J : ℕ) where
     (λ w. whole-throughout Within within-shorter xs []
         (within-listed xs (reverseAux xs []) (sym (whole-length xs)) (λ s. sym (whole-listed xs s)) w)),
   )
-
-  -- two lists that list each slot equally often are accepted alike
-  pub order-free : (n : ℕ) (xs ys : List ℕ) → Below n xs → Below n ys → ((s : ℕ) → listed s xs ≡ listed s ys) → Accepted xs → Accepted ys
-  order-free n xs ys bx by e t =
-      let f : length xs ≡ length ys = sym (sum-listed n xs bx) ∙ ap (λ (f : ℕ → ℕ). sum (tabulate n f)) (fun-ext {f = λ s. listed s xs} {g = λ s. listed s ys} e) ∙ sum-listed n ys by in
-      accepted-within ys .1 (within-listed xs ys f e (accepted-within xs .0 t))

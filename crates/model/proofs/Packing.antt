@@ -85,9 +85,6 @@ pub unpack-pack : (w : ℕ) (es : List ℕ) → Below (2 ^ w) es → unpack w (l
 unpack-pack w [] h = refl
 unpack-pack w (e ∷ es) h = rw (low (pack w es) w (h .0), high (pack w es) w (h .0), unpack-pack w es (h .1))
 
-pub pack-inj : (w : ℕ) (xs ys : List ℕ) → Below (2 ^ w) xs → Below (2 ^ w) ys → length xs ≡ length ys → pack w xs ≡ pack w ys → xs ≡ ys
-pack-inj w xs ys hx hy l e = sym (unpack-pack w xs hx) ∙ ap₂ (unpack w) l e ∙ unpack-pack w ys hy
-
 -- ---- marks: words of one-bit entries
 
 ones-bit : (m : ℕ) → m < 2 → ones m ≡ m

@@ -259,8 +259,3 @@ flatten-full h bs fs q f s k l =
     ∙ ap (λ (x : List ℕ). splice x (q * 65) (fullWords f)) (append-nil (concat (map fullWords fs))))
     ∙ ap (λ (x : List ℕ). headerWords h ++ x) (sym (splice-after n (concat (map fullWords fs)) (q * 65) (fullWords f)))
     ∙ sym (splice-after (headerWords h) (n ++ concat (map fullWords fs)) (length n + q * 65) (fullWords f))
-
--- a new header is four new words
-pub flatten-head : (h k : Header) (bs : List Bucket) (fs : List Full) → flatten (wallOf k bs fs) ≡ headerWords k ++ drop 4 (flatten (wallOf h bs fs))
-unfolding flatten
-flatten-head h k bs fs = refl

@@ -64,10 +64,6 @@ module _ (v : ℕ) where
   reply-done zero e = refl
   reply-done (suc n) e = absurd (omega arith)
 
-  pub reply-refused : (n : ℕ) → 0 < n → reply n v ≡ record { number = n; value = 0 }
-  reply-refused zero h = absurd (not-suc-le-zero h)
-  reply-refused (suc n) h = refl
-
 -- ---- a refusal gives count 0 and changes no word
 
 pub record Unchanged (ws : List ℕ) (r : Outcome) : Type 0 where
@@ -81,10 +77,6 @@ refused (suc n) v done ws h = record { value = refl; words = refl }
 pub increment-refused : (ws : List ℕ) (y : ℕ) → 0 < increment ws y .number → Unchanged ws (increment ws y)
 unfolding increment
 increment-refused ws y = refused (firstMet (bucketRefusals ws y ++ stepRefusals (parse ws) y)) (count (parse ws) y + 1) (flatten (raisedBy (parse ws) y 1)) ws
-
-pub lookup-refused : (ws : List ℕ) (y : ℕ) → 0 < lookup ws y .number → Unchanged ws (lookup ws y)
-unfolding lookup
-lookup-refused ws y = refused (firstMet (bucketRefusals ws y)) (count (parse ws) y) ws ws
 
 pub lookup-words : (ws : List ℕ) (y : ℕ) → lookup ws y .words ≡ ws
 unfolding lookup
@@ -121,18 +113,6 @@ first-apart n (r ∷ rs) h = go (r .met) (first-apart n rs (h .1))
     go false f = f
 
 -- ---- the other calls
-
-pub close-refused : (ws : List ℕ) → 0 < close ws .number → Unchanged ws (close ws)
-unfolding close
-close-refused ws = refused (firstMet (refuse 7 (not (good ws)) ∷ [])) 0 (fresh (readHeader ws)) ws
-
-pub raise-refused : (p w b m j : ℕ) (ws : List ℕ) → 0 < raise p w b m j ws .number → Unchanged ws (raise p w b m j ws)
-unfolding raise
-raise-refused p w b m j ws = refused (firstMet (raiseRefusals p w b m j ws)) 0 (fresh (asked p w b m j)) ws
-
-pub check-words : (ws : List ℕ) → check ws .words ≡ ws
-unfolding check
-check-words ws = refl
 
 -- the lowest that fails: all before it pass, and it fails
 pub lowest-before : (n : ℕ) (p : ℕ → Bool) (i : ℕ) → i < lowest n p → T (p i)

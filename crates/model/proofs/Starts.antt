@@ -60,9 +60,6 @@ module _ (p w b m j : ℕ) (ws : List ℕ) where
   raised-words e =
       ap (λ (a : Outcome). a .words) (answer-done 0 (fresh h) ws (firstMet (raiseRefusals p w b m j ws)) (sym (answer-no 0 (fresh h) ws (firstMet (raiseRefusals p w b m j ws))) ∙ e))
 
-  pub raised-on : raise p w b m j ws .number ≡ 0 → On h [] (raise p w b m j ws .words)
-  raised-on e = subst (On h []) (sym (raised-words e)) (fresh-on h (raised-iff .0 e .0) refl)
-
 -- ---- close
 
 pub cleared : (g : Header) → Limits g → Limits (withTotals g 0 0)
@@ -96,9 +93,6 @@ module _ (ws : List ℕ) where
   unfolding close
   closed-words e =
       ap (λ (a : Outcome). a .words) (answer-done 0 (fresh (readHeader ws)) ws (firstMet (closeRefusals ws)) (sym (answer-no 0 (fresh (readHeader ws)) ws (firstMet (closeRefusals ws))) ∙ e))
-
-  pub closed-on : close ws .number ≡ 0 → On (readHeader ws) [] (close ws .words)
-  closed-on e = subst (On (readHeader ws) []) (sym (closed-words e)) (fresh-on (readHeader ws) (cleared (readHeader ws) (good-of ws (closed-iff .0 e) .limits)) refl)
 
 -- ---- every prefix of an accepted list is accepted
 

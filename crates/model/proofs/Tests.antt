@@ -36,38 +36,3 @@ soundb lo [] n [] = leb n 0
 soundb lo [] n (l ∷ ls) = false
 soundb lo (r ∷ rs) n [] = false
 soundb lo (r ∷ rs) n (l ∷ ls) = levelb lo r n l && soundb 1 rs (ones (l .marks)) ls
-
-pub soundb-sound : (lo : ℕ) (rs : List Row) (n : ℕ) (ls : List Level) → T (soundb lo rs n ls) → Sound lo rs n ls
-soundb-sound lo [] n [] t = leb→le n 0 t
-soundb-sound lo [] n (l ∷ ls) t = t
-soundb-sound lo (r ∷ rs) n [] t = t
-soundb-sound lo (r ∷ rs) n (l ∷ ls) t =
-    let a = and-iff (levelb lo r n l) (soundb 1 rs (ones (l .marks)) ls) .0 t in
-    let b = and-iff (leb n (r .entries)) _ .0 (a .0) in
-    let c = and-iff (ltb (l .cells) (2 ^ (r .width * n))) _ .0 (b .1) in
-    let d = and-iff (ltb (l .marks) (2 ^ n)) _ .0 (c .1) in (
-      leb→le n (r .entries) (b .0),
-      ltb→lt (l .cells) (2 ^ (r .width * n)) (c .0),
-      ltb→lt (l .marks) (2 ^ n) (d .0),
-      (λ i h. leb→le lo (entry (r .width) (l .cells) i + bit (l .marks) i) (every-at n (λ i. leb lo (entry (r .width) (l .cells) i + bit (l .marks) i)) (d .1) i h)),
-      soundb-sound 1 rs (ones (l .marks)) ls (a .1),
-    )
-
-pub sound-soundb : (lo : ℕ) (rs : List Row) (n : ℕ) (ls : List Level) → Sound lo rs n ls → T (soundb lo rs n ls)
-sound-soundb lo [] n [] s = le→leb n 0 s
-sound-soundb lo [] n (l ∷ ls) s = s
-sound-soundb lo (r ∷ rs) n [] s = s
-sound-soundb lo (r ∷ rs) n (l ∷ ls) s =
-    and-iff (levelb lo r n l) (soundb 1 rs (ones (l .marks)) ls) .1 (
-      and-iff (leb n (r .entries)) _ .1 (
-        le→leb n (r .entries) (s .0),
-        and-iff (ltb (l .cells) (2 ^ (r .width * n))) _ .1 (
-          lt→ltb (l .cells) (2 ^ (r .width * n)) (s .1),
-          and-iff (ltb (l .marks) (2 ^ n)) _ .1 (
-            lt→ltb (l .marks) (2 ^ n) (s .2),
-            every-of n (λ i. leb lo (entry (r .width) (l .cells) i + bit (l .marks) i)) (λ i h. le→leb lo (entry (r .width) (l .cells) i + bit (l .marks) i) (s .3 i h)),
-          ),
-        ),
-      ),
-      sound-soundb 1 rs (ones (l .marks)) ls (s .4),
-    )

@@ -69,12 +69,6 @@ module _ (w : ℕ) (vs : List ℕ) (a v′ : ℕ) where
   pub onward-insert : a < length vs → getD vs a 0 < 2 ^ w → 2 ^ w ≤ v′ → onward w (set vs a v′) ≡ insert (onward w vs) (rankIn (uppers w vs) a) (v′ / 2 ^ w)
   onward-insert l h h′ = ap nonzero uppers-set ∙ nonzero-insert (uppers w vs) a (v′ / 2 ^ w) (rw length-map l) (upper-at w vs a ∙ div-eq-of-lt h) (div-pos w h′)
 
-  -- no mark before and after: the next level stays
-  pub onward-same : getD vs a 0 < 2 ^ w → v′ < 2 ^ w → onward w (set vs a v′) ≡ onward w vs
-  onward-same h h′ =
-      let e : v′ / 2 ^ w ≡ getD (uppers w vs) a 0 = div-eq-of-lt h′ ∙ sym (upper-at w vs a ∙ div-eq-of-lt h) in
-      rw (uppers-set, e, set-getD (uppers w vs) a 0)
-
 -- an increment that carries out of the level leaves a part of 0 and starts the next at 1
 pub carry : (w v : ℕ) → v < 2 ^ w → 2 ^ w ≤ v + 1 → ((v + 1) / 2 ^ w ≡ 1) × ((v + 1) % 2 ^ w ≡ 0)
 carry w v h h′ = let e : v + 1 ≡ 2 ^ w = omega arith in (ap (λ x. x / 2 ^ w) e ∙ div-self (pow-pos w), ap (λ x. x % 2 ^ w) e ∙ mod-self (2 ^ w))
