@@ -1,24 +1,32 @@
 -- The parts of a count, which counters use a level, the bits of a counter, and the bytes of an image.
 use mathlib.Core.Logic.{_↔_}
-use mathlib.Core.Path.{_≡_, subst, _∙_}
+use mathlib.Core.Path.{_≡_, refl, sym, ap, ap₂, subst, _∙_}
+use mathlib.Core.Bool.{Bool, true, false, not}
 use mathlib.Core.List.{List}
-use Prim.Native.Nat.{ℕ, suc, _*_, _^_, _≤_, _<_}
+use Prim.Native.Nat.{ℕ, suc, _+_, _*_, _^_, _≤_, _<_}
+use native.Mathlib.Nat.{mod-lt}
 use native.Mathlib.Omega.{arith}
-use lib.Dec.{T}
-use lib.ListN.{length, getD}
-use Rattle.model.specs.Lists.{sum, tabulate}
-use Rattle.model.specs.Shapes.{Row, allRows}
-use Rattle.model.specs.Levels.{Level, readAt, uses}
-use Rattle.model.specs.Walls.{Wall, bucketsIn, parse}
-use Rattle.model.specs.Sound.{levelsOf, ownCounts, bucketAt, ownAt}
+use lib.Dec.{T, lit<}
+use lib.ListN.{length, getD, set}
+use Rattle.model.specs.Lists.{choose, byMark, sum, tabulate}
+use Rattle.model.specs.Shapes.{Row, allRows, counterBits}
+use Rattle.model.specs.Levels.{Level, readAt, uses, crowded}
+use Rattle.model.specs.Walls.{Wall, slotOf, bucketOf, placeOf, bucketsIn, parse}
+use Rattle.model.specs.Sound.{flag, levelsOf, ownCounts, bucketAt, ownAt, countsAt, count}
+use Rattle.model.specs.Calls.{holding, overflowed, noRoom, overflows, increment}
+use Rattle.model.specs.After.{ownAfter}
 use Rattle.model.proofs.Lists.{getD-tab}
 use Rattle.model.proofs.Buckets.{own-coded}
-use Rattle.model.proofs.SoundWalls.{check-sound}
+use Rattle.model.proofs.SoundWalls.{SoundWall, check-sound}
+use Rattle.model.proofs.Headers.{bucket-lt}
+use Rattle.model.proofs.Growth.{Wide}
+use Rattle.model.proofs.Bridge.{bump-hold, room-crowded}
+use Rattle.model.proofs.Demand2.{increment-raises}
 use Rattle.model.proofs.Uses.{uses-encode, read-parts}
 use Rattle.model.proofs.Images.{image-call, image-past}
 use Rattle.demands.specs.DemandTwo.{Accepted}
-use Rattle.demands.specs.Layouts.{UsesLevel, below, part, Layouts}
-use Rattle.demands.proofs.Laid.{words-below}
+use Rattle.demands.specs.Layouts.{UsesLevel, below, part, roomFor, carriedIn, Layouts}
+use Rattle.demands.proofs.Laid.{words-below, at-counts}
 
 levels : (ws : List ℕ) → Accepted ws → (i : ℕ) → i < bucketsIn (parse ws .header) → (a d : ℕ) → d < length (parse ws .header .rows)
     → UsesLevel (parse ws) i a (suc d) ↔ (2 ^ below (parse ws) (suc d) ≤ getD (ownAt (parse ws) i) a 0)
@@ -38,8 +46,70 @@ weighted ws i a h =
     let ls : List Level = levelsOf (v .header .rows) (bucketAt v i) in
     getD-tab 64 (readAt rs ls) a h ∙ read-parts rs ls a
 
+-- ---- a bucket without the flag grows
+
+none : (x : Bool) → T (not x) → x ≡ false
+none true t = absurd t
+none false t = refl
+
+module _ (ws : List ℕ) (y : ℕ) (ok : Accepted ws) (below-limit : parse ws .header .total < parse ws .header .limit) (e : flag (bucketAt (parse ws) (bucketOf (parse ws .header) y)) ≡ 0) where
+  abbrev v : Wall
+  v = parse ws
+
+  abbrev w : ℕ
+  w = v .header .width
+
+  abbrev rs : List Row
+  rs = v .header .rows
+
+  abbrev i : ℕ
+  i = bucketOf (v .header) y
+
+  abbrev a : ℕ
+  a = placeOf (v .header) y
+
+  abbrev os : List ℕ
+  os = ownAt v i
+
+  s : SoundWall v
+  s = check-sound ws .0 ok .1
+
+  li : i < bucketsIn (v .header)
+  li = bucket-lt (v .header .bits) y (s .limits .bits-low)
+
+  la : a < 64
+  la = mod-lt (slotOf (v .header) y) (lit< tt)
+
+  wide : Wide (allRows w rs)
+  wide = (s .limits .width-low, s .limits .fine .wide)
+
+  own-count : count v y ≡ getD os a 0
+  unfolding count
+  own-count = ap (λ l. getD l a 0) (at-counts v s i li e)
+
+  small : sum os + 1 < 2 ^ counterBits w rs
+  unfolding countsAt
+  small = let m : sum (countsAt v i) ≤ v .header .total = s .each i li .most in omega (arith, m, ap sum (at-counts v s i li e), s .limits .limit-high, below-limit)
+
+  crowds : overflows v i a (count v y + 1) ≡ crowded w rs (set os a (getD os a 0 + 1))
+  unfolding noRoom
+  crowds = ap (λ m. byMark m (noRoom v i a (count v y + 1)) false) e ∙ ap (λ n. crowded w rs (set os a (n + 1))) own-count
+
+  room : T (roomFor v i a) ↔ T (not (overflows v i a (count v y + 1)))
+  room = subst (λ x. T (roomFor v i a) ↔ T (not x)) (sym crowds) (room-crowded w rs wide (bucketAt v i) (s .each i li .levels) a la small)
+
+  carried : increment ws y .number ≡ 0 → T (roomFor v i a) → bucketAt (parse (increment ws y .words)) i ≡ carriedIn v i a
+  unfolding ownAfter
+  carried h t =
+      let z : noRoom v i a (count v y + 1) ≡ false = sym (ap (λ m. byMark m (noRoom v i a (count v y + 1)) false) e) ∙ none (overflows v i a (count v y + 1)) (room .0 t) in
+      increment-raises ws y ok h .own
+      ∙ ap₂ (λ m x. byMark m (choose x (overflowed (bucketAt v i) (v .header .used)) (holding w rs (set os a (count v y + 1)))) (bucketAt v i)) e z
+      ∙ ap (λ n. holding w rs (set os a (n + 1))) own-count
+      ∙ sym (bump-hold w rs wide (bucketAt v i) (s .each i li .levels) a la)
+
 pub layouts : Layouts
 layouts = record {
+  grows = λ ws y ok l e. record { room = room ws y ok l e; carried = carried ws y ok l e };
   weighted = weighted;
   counters = λ w. (omega arith, omega arith, omega arith);
   levels = levels;

@@ -52,7 +52,7 @@ agree-plain ws us ok good a =
 raises : (ws : List ℕ) (y : ℕ) → Accepted ws → increment ws y .number ≡ 0 → Raised ws y (increment ws y)
 raises ws y ok e =
     let r = increment-raises ws y ok e in
-    record { value = r .value; here = r .here; there = r .there; header = r .header; accepted = r .accepted; used = r .used; others = r .others }
+    record { value = r .value; here = r .here; there = r .there; header = r .header; accepted = r .accepted; used = r .used; own = r .own; own-full = r .own-full; others = r .others }
 
 own-reads : (ws : List ℕ) (y : ℕ) → Clear (bucketRefusals ws y) → lookup ws y ≡ record { number = 0; value = count (parse ws) y; words = ws }
 unfolding lookup

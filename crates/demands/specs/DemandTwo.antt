@@ -7,6 +7,7 @@ use Rattle.model.specs.Lists.{oneIf}
 use Rattle.model.specs.Walls.{Wall, bucketOf, placeOf, flows, bucketsIn, withTotals, parse}
 use Rattle.model.specs.Sound.{flag, fullNumber, bucketAt, ownAt, countsAt, fullFor, movedAt, fullCount, count}
 use Rattle.model.specs.Calls.{Outcome, Clear, bucketRefusals, stepRefusals, overflows, holding, overflowed, lookup, increment, check}
+use Rattle.model.specs.After.{ownAfter, fullAfter}
 use lib.ListN.{getD}
 
 abbrev pub Accepted : List ℕ → Type 0
@@ -18,7 +19,8 @@ Words [] = Unit {0}
 Words (w ∷ ws) = (w < 2 ^ 64) × Words ws
 
 -- what an accepted increment of flow y leaves of a wall that the check accepts: one count and the total one more, every other count as it
--- was, and a wall that the check accepts; U one more exactly where the bucket must overflow; every other bucket and its full-size bucket as they were
+-- was, and a wall that the check accepts; U one more exactly where the bucket must overflow; the flow's bucket and its full-size bucket as
+-- the step makes them, and every other bucket and its full-size bucket as they were
 pub record Raised (ws : List ℕ) (y : ℕ) (r : Outcome) : Type 0 where
   pub value : r .value ≡ count (parse ws) y + 1
   pub here : count (parse (r .words)) y ≡ count (parse ws) y + 1
@@ -26,6 +28,8 @@ pub record Raised (ws : List ℕ) (y : ℕ) (r : Outcome) : Type 0 where
   pub header : parse (r .words) .header ≡ withTotals (parse ws .header) (parse ws .header .total + 1) (parse (r .words) .header .used)
   pub accepted : Accepted (r .words)
   pub used : parse (r .words) .header .used ≡ parse ws .header .used + oneIf (overflows (parse ws) (bucketOf (parse ws .header) y) (placeOf (parse ws .header) y) (count (parse ws) y + 1))
+  pub own : bucketAt (parse (r .words)) (bucketOf (parse ws .header) y) ≡ ownAfter (parse ws) (bucketOf (parse ws .header) y) (placeOf (parse ws .header) y) (count (parse ws) y + 1)
+  pub own-full : fullFor (parse (r .words)) (bucketOf (parse ws .header) y) ≡ fullAfter (parse ws) (bucketOf (parse ws .header) y) (placeOf (parse ws .header) y) (count (parse ws) y + 1)
   pub others : (i : ℕ) → i < bucketsIn (parse ws .header) → i ≢ bucketOf (parse ws .header) y → (bucketAt (parse (r .words)) i ≡ bucketAt (parse ws) i) × (fullFor (parse (r .words)) i ≡ fullFor (parse ws) i)
 
 -- the words of a bucket of such a wall are the only ones that the layout allows: without the flag the encoding of its counts; with it that

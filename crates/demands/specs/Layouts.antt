@@ -1,6 +1,7 @@
--- What the layout says beside demand 2: the parts of a count, which counters use a level, the bits of a counter, and the bytes of an image.
+-- What the scheme and the layout say beside demand 2: how a bucket grows, the parts of a count, which counters use a level, the bits of a counter, and the bytes of an image.
 use mathlib.Core.Logic.{_↔_}
 use mathlib.Core.Path.{_≡_}
+use mathlib.Core.Bool.{Bool, not}
 use mathlib.Core.List.{List}
 use Prim.Native.Nat.{ℕ, suc, _+_, _*_, _^_, _≤_, _<_}
 use lib.Dec.{T}
@@ -8,9 +9,10 @@ use lib.ListN.{length, getD}
 use Rattle.model.specs.Lists.{sum, tabulate}
 use Rattle.model.specs.Shapes.{rowsOf, allRows, counterBits}
 use Rattle.model.specs.Levels.{uses, partAt, start}
-use Rattle.model.specs.Walls.{Wall, bucketsIn, parse}
-use Rattle.model.specs.Sound.{levelsOf, bucketAt, ownAt}
-use Rattle.model.specs.Calls.{imageCall, image}
+use Rattle.model.specs.Growing.{incremented, hasRoom}
+use Rattle.model.specs.Walls.{Bucket, Wall, bucketOf, placeOf, bucketsIn, parse}
+use Rattle.model.specs.Sound.{flag, levelsOf, bucketAt, ownAt, count}
+use Rattle.model.specs.Calls.{imageCall, image, fromLevels, overflows, increment}
 use Rattle.demands.specs.DemandTwo.{Accepted, Words}
 
 -- in bucket i the counter at place a has an entry d levels above the first
@@ -21,11 +23,28 @@ UsesLevel v i a d = T (uses (allRows (v .header .width) (v .header .rows)) (leve
 abbrev pub below : Wall → ℕ → ℕ
 below v d = start (allRows (v .header .width) (v .header .rows)) d
 
+-- the document's rule at place a of bucket i: whether the next level has room, and the bucket after one more
+abbrev pub roomFor : Wall → ℕ → ℕ → Bool
+roomFor v i a = hasRoom (allRows (v .header .width) (v .header .rows)) 64 (levelsOf (v .header .rows) (bucketAt v i)) a
+
+abbrev pub carriedIn : Wall → ℕ → ℕ → Bucket
+carriedIn v i a = fromLevels (v .header .width) (v .header .rows) (incremented (allRows (v .header .width) (v .header .rows)) (levelsOf (v .header .rows) (bucketAt v i)) a) 0 0
+
 -- the part of that counter there, 0 where it has none
 abbrev pub part : Wall → ℕ → ℕ → ℕ → ℕ
 part v i a d = partAt (allRows (v .header .width) (v .header .rows)) (levelsOf (v .header .rows) (bucketAt v i)) a d
 
+-- how flow y of these words grows, its bucket having no flag: its levels have room exactly where the level that its counter would come into
+-- has an entry free; then one is added to the lowest part and carried, entries and marks moving together
+pub record Grows (ws : List ℕ) (y : ℕ) : Type 0 where
+  pub room : T (roomFor (parse ws) (bucketOf (parse ws .header) y) (placeOf (parse ws .header) y))
+      ↔ T (not (overflows (parse ws) (bucketOf (parse ws .header) y) (placeOf (parse ws .header) y) (count (parse ws) y + 1)))
+  pub carried : increment ws y .number ≡ 0 → T (roomFor (parse ws) (bucketOf (parse ws .header) y) (placeOf (parse ws .header) y))
+      → bucketAt (parse (increment ws y .words)) (bucketOf (parse ws .header) y) ≡ carriedIn (parse ws) (bucketOf (parse ws .header) y) (placeOf (parse ws .header) y)
+
 pub record Layouts : Type 0 where
+  -- the document's rule of an increment, on a wall that the check accepts, where number 10 is not met
+  pub grows : (ws : List ℕ) (y : ℕ) → Accepted ws → parse ws .header .total < parse ws .header .limit → flag (bucketAt (parse ws) (bucketOf (parse ws .header) y)) ≡ 0 → Grows ws y
   -- a bucket's own count is the sum of the parts of its p levels, each weighted by the bits below its level
   pub weighted : (ws : List ℕ) (i a : ℕ) → a < 64 → getD (ownAt (parse ws) i) a 0 ≡ sum (tabulate (suc (length (parse ws .header .rows))) (λ d. part (parse ws) i a d * 2 ^ below (parse ws) d))
   -- L of the three shapes

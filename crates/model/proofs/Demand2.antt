@@ -16,6 +16,7 @@ use Rattle.model.specs.Slots.{slot}
 use Rattle.model.specs.Walls.{Header, Wall, bucketsIn, flows, wallSize, bucketWords, fullWords, readHeader, good, flatten, parse, withTotals, bucketOf, placeOf}
 use Rattle.model.specs.Sound.{flag, bucketAt, fullFor, countsAt, soundAt, count}
 use Rattle.model.specs.Calls.{Clear, Outcome, firstMet, noRoom, overflows, bucketRefusals, stepRefusals, raisedBy, lookup, increment, check}
+use Rattle.model.specs.After.{ownAfter, fullAfter}
 use Rattle.model.proofs.Tests.{every-at}
 use Rattle.model.proofs.Slots.{slot-inj}
 use Rattle.model.proofs.Tools.{by-eq}
@@ -141,6 +142,8 @@ pub record RaisedBy (ws : List ℕ) (y d : ℕ) (r : Outcome) : Type 0 where
   pub here : count (parse (r .words)) y ≡ count (parse ws) y + d
   pub there : (z : ℕ) → z < flows (parse ws .header) → z ≢ y → count (parse (r .words)) z ≡ count (parse ws) z
   pub used : parse (r .words) .header .used ≡ parse ws .header .used + oneIf (overflows (parse ws) (bucketOf (parse ws .header) y) (placeOf (parse ws .header) y) (count (parse ws) y + d))
+  pub own : bucketAt (parse (r .words)) (bucketOf (parse ws .header) y) ≡ ownAfter (parse ws) (bucketOf (parse ws .header) y) (placeOf (parse ws .header) y) (count (parse ws) y + d)
+  pub own-full : fullFor (parse (r .words)) (bucketOf (parse ws .header) y) ≡ fullAfter (parse ws) (bucketOf (parse ws .header) y) (placeOf (parse ws .header) y) (count (parse ws) y + d)
   pub others : (k : ℕ) → k < bucketsIn (parse ws .header) → k ≢ bucketOf (parse ws .header) y → (bucketAt (parse (r .words)) k ≡ bucketAt (parse ws) k) × (fullFor (parse (r .words)) k ≡ fullFor (parse ws) k)
 
 named : (ws : List ℕ) (y : ℕ) → Named (bucketRefusals ws y ++ stepRefusals (parse ws) y)
@@ -179,6 +182,8 @@ raises-by ws y d s p l f =
       here = ap (λ v. count v y) q ∙ count-here (parse ws) v y d t (s .limits .bits-low);
       there = λ z h n. ap (λ v. count v z) q ∙ count-there (parse ws) v y d t (s .limits .bits-low) z l h n;
       used = ap (λ (v : Wall). v .header .used) q ∙ t .used;
+      own = ap (λ (v : Wall). bucketAt v (bucketOf (parse ws .header) y)) q ∙ t .own .0;
+      own-full = ap (λ (v : Wall). fullFor v (bucketOf (parse ws .header) y)) q ∙ t .own .1;
       others = λ k h n. (ap (λ (v : Wall). bucketAt v k) q ∙ t .others k h n .0, ap (λ (v : Wall). fullFor v k) q ∙ t .others k h n .1);
     }
 

@@ -15,6 +15,7 @@ use Rattle.model.specs.Levels.{crowded}
 use Rattle.model.specs.Walls.{Bucket, Full, Wall, bucketsIn, emptyFull, emptyBucket, withTotals, wall}
 use Rattle.model.specs.Sound.{flag, fullNumber, ownCounts, fullOf, bucketCounts, bucketAt, ownAt, fullFor, countsAt, holdsNumber, holders, allCounts, isEmptyFull}
 use Rattle.model.specs.Calls.{noRoom, overflows, step, holding, overflowed, moveIn}
+use Rattle.model.specs.After.{ownAfter, fullAfter}
 use Rattle.model.proofs.Coding.{Fits}
 use Rattle.model.proofs.Crowding.{bucket-fits, T-true}
 use Rattle.model.proofs.Tools.{by-eq}
@@ -36,6 +37,7 @@ pub record Stepped (x : Wall) (i a d : ℕ) (y : Wall) : Type 0 where
   pub there : (k : ℕ) → k < bucketsIn (x .header) → k ≢ i → countsAt y k ≡ countsAt x k
   pub flag-here : flag (bucketAt y i) ≡ byMark (flag (bucketAt x i)) (oneIf (noRoom x i a (getD (countsAt x i) a 0 + d))) (flag (bucketAt x i))
   pub used : y .header .used ≡ x .header .used + oneIf (overflows x i a (getD (countsAt x i) a 0 + d))
+  pub own : (bucketAt y i ≡ ownAfter x i a (getD (countsAt x i) a 0 + d)) × (fullFor y i ≡ fullAfter x i a (getD (countsAt x i) a 0 + d))
   pub others : (k : ℕ) → k < bucketsIn (x .header) → k ≢ i → (bucketAt y k ≡ bucketAt x k) × (fullFor y k ≡ fullFor x k)
   pub needed : AllNeeded x → AllNeeded y
 
@@ -81,10 +83,27 @@ module _ (x : Wall) (s : SoundWall x) (i a d : ℕ) (li : i < bucketsIn (x .head
   abbrev c : ℕ
   c = getD (countsAt x i) a 0
 
+  abbrev b : Bucket
+  b = bucketAt x i
+
+  abbrev w : ℕ
+  w = x .header .width
+
+  abbrev rs : List Row
+  rs = x .header .rows
+
+  abbrev os : List ℕ
+  os = ownAt x i
+
+  abbrev vs : List ℕ
+  vs = set os a (c + d)
+
   -- bucket i is as it should be, and the others and their full-size buckets stay
   record Local (u : ℕ) (bs : List Bucket) (fs : List Full) : Type 0 where
     shaped : Shaped (next u bs fs)
     used : u ≡ x .header .used + oneIf (overflows x i a (c + d))
+    own : bucketAt (next u bs fs) i ≡ ownAfter x i a (c + d)
+    own-full : fullFor (next u bs fs) i ≡ fullAfter x i a (c + d)
     spare : u ≤ x .header .full
     buckets : (k : ℕ) → k < bucketsIn (x .header) → k ≢ i → bucketAt (next u bs fs) k ≡ bucketAt x k
     fulls : (k : ℕ) → k < bucketsIn (x .header) → k ≢ i → fullOf fs (bucketAt x k) ≡ fullFor x k
@@ -151,6 +170,7 @@ module _ (x : Wall) (s : SoundWall x) (i a d : ℕ) (li : i < bucketsIn (x .head
       there = other;
       flag-here = l .flagged;
       used = l .used;
+      own = (l .own, l .own-full);
       others = λ k h z. (l .buckets k h z, full-other k h z);
       needed = λ n k h e. by-eq k i
           (λ z. subst (Needed (next u bs fs)) (sym z) (l .needed (n i li) (ap (λ j. flag (bucketAt (next u bs fs) j)) (sym z) ∙ e)))
@@ -159,21 +179,6 @@ module _ (x : Wall) (s : SoundWall x) (i a d : ℕ) (li : i < bucketsIn (x .head
     }
 
   -- ---- the three cases
-
-  abbrev b : Bucket
-  b = bucketAt x i
-
-  abbrev w : ℕ
-  w = x .header .width
-
-  abbrev rs : List Row
-  rs = x .header .rows
-
-  abbrev os : List ℕ
-  os = ownAt x i
-
-  abbrev vs : List ℕ
-  vs = set os a (c + d)
 
   at-here : (b′ : Bucket) → getD (set (x .buckets) i b′) i (emptyBucket w rs) ≡ b′
   at-here = own.at-here x (s .shaped) (s .limits) i a d li la (s .each i li) room
@@ -184,6 +189,14 @@ module _ (x : Wall) (s : SoundWall x) (i a d : ℕ) (li : i < bucketsIn (x .head
   -- U rises by one exactly where the bucket overflows
   used-by : (m : ℕ) {u : ℕ} {t : Bool} → flag b ≡ m → noRoom x i a (c + d) ≡ t → u ≡ x .header .used + oneIf (byMark m t false) → u ≡ x .header .used + oneIf (overflows x i a (c + d))
   used-by m e t z = z ∙ ap₂ (λ m t. x .header .used + oneIf (byMark m t false)) (sym e) (sym t)
+
+  own-by : (m : ℕ) {t : Bool} {b′ : Bucket} → flag b ≡ m → noRoom x i a (c + d) ≡ t → b′ ≡ byMark m (choose t (overflowed b (x .header .used)) (holding w rs vs)) b → b′ ≡ ownAfter x i a (c + d)
+  unfolding ownAfter
+  own-by m e t z = z ∙ ap₂ (λ m t. byMark m (choose t (overflowed b (x .header .used)) (holding w rs vs)) b) (sym e) (sym t)
+
+  full-by : (m : ℕ) {t : Bool} {f : Full} → flag b ≡ m → noRoom x i a (c + d) ≡ t → f ≡ byMark m (choose t (moveIn emptyFull a (c + d)) emptyFull) (moveIn (fullFor x i) a (c + d)) → f ≡ fullAfter x i a (c + d)
+  unfolding fullAfter
+  full-by m e t z = z ∙ ap₂ (λ m t. byMark m (choose t (moveIn emptyFull a (c + d)) emptyFull) (moveIn (fullFor x i) a (c + d))) (sym e) (sym t)
 
   most-here : sum (set (countsAt x i) a (c + d)) ≤ x .header .total + d
   most-here = own.most-here x (s .shaped) (s .limits) i a d li la (s .each i li) room
@@ -235,6 +248,8 @@ module _ (x : Wall) (s : SoundWall x) (i a d : ℕ) (li : i < bucketsIn (x .head
       held-local = record {
         shaped = own.kept-held x (s .shaped) (s .limits) i a d li la (s .each i li) room e t .shaped;
         used = used-by 0 e t (sym (add-zero (x .header .used)));
+        own = own-by 0 e t (at-here kept);
+        own-full = full-by 0 e t (ap (fullOf (x .fulls)) (at-here kept) ∙ kept-none);
         spare = s .limits .spare-full;
         buckets = λ k h z. at-other kept k z;
         fulls = λ k h z. refl;
@@ -309,6 +324,8 @@ module _ (x : Wall) (s : SoundWall x) (i a d : ℕ) (li : i < bucketsIn (x .head
       over-local = record {
         shaped = own.kept-over x (s .shaped) (s .limits) i a d li la (s .each i li) room e free .shaped;
         used = used-by 0 e t refl;
+        own = own-by 0 e t (at-here over);
+        own-full = full-by 0 e t (ap (fullOf fs) (at-here over) ∙ over-full);
         spare = omega arith;
         buckets = λ k h z. at-other over k z;
         fulls = λ k h z. fullOf-set (x .fulls) u moved (bucketAt x k) (others k h);
@@ -369,6 +386,8 @@ module _ (x : Wall) (s : SoundWall x) (i a d : ℕ) (li : i < bucketsIn (x .head
     raised-local = record {
       shaped = own.kept-raised x (s .shaped) (s .limits) i a d li la (s .each i li) room m e .shaped;
       used = used-by (suc m) e refl (sym (add-zero (x .header .used)));
+      own = own-by (suc m) e refl refl;
+      own-full = full-by (suc m) e refl raised-full;
       spare = s .limits .spare-full;
       buckets = λ k h z. refl;
       fulls = λ k h z. fullOf-set (x .fulls) n raised (bucketAt x k) (apart k h z);

@@ -8,4 +8,5 @@ pub mod Walls
 pub mod Sound
 pub mod Need
 pub mod Calls
+pub mod After
 pub mod Runs
