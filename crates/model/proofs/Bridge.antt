@@ -3,27 +3,26 @@ use mathlib.Core.Logic.{_↔_}
 use mathlib.Core.Path.{_≡_, sym, ap, ap₂, _∙_, subst, subst₂}
 use mathlib.Core.Bool.{not}
 use mathlib.Core.List.{List}
-use Prim.Native.Nat.{ℕ, _+_, _*_, _^_, _<_}
-use native.Mathlib.Nat.{le-of-eq, one-mul, mul-one, mod-eq-of-lt, zero-add}
+use Prim.Native.Nat.{ℕ, _+_, _^_, _<_}
+use native.Mathlib.Nat.{le-of-eq}
 use native.Mathlib.Omega.{arith}
 use lib.Dec.{T}
 use lib.ListN.{length, getD, set, length-set}
-use lib.Seq.{set-getD}
 use Rattle.model.specs.Lists.{sum}
 use Rattle.model.specs.Packed.{pack, unpack}
 use Rattle.model.specs.Shapes.{Row, counterBits, row, allRows}
 use Rattle.model.specs.Levels.{crowded}
 use Rattle.model.specs.Growing.{incremented, hasRoom}
-use Rattle.model.specs.Walls.{Bucket, Full}
-use Rattle.model.specs.Sound.{levelsOf, ownCounts, movedAt}
-use Rattle.model.specs.Calls.{fromLevels, holding, moveIn}
-use Rattle.model.proofs.Lists.{Below, getD-tab}
-use Rattle.model.proofs.Packing.{pack-raise, pack-unpack, unpack-pack, length-unpack}
-use Rattle.model.proofs.Coding.{Fits, Sound, read, total, total-encode}
+use Rattle.model.specs.Walls.{Bucket}
+use Rattle.model.specs.Sound.{levelsOf, ownCounts}
+use Rattle.model.specs.Calls.{fromLevels, holding}
+use Rattle.model.proofs.Lists.{Below}
+use Rattle.model.proofs.Packing.{unpack-pack}
+use Rattle.model.proofs.Coding.{Fits, Sound}
 use Rattle.model.proofs.Crowding.{atLeast-sum, bucket-fits}
 use Rattle.model.proofs.Growth.{Wide, bump-encode, room-fits}
 use Rattle.model.proofs.Sums.{sum-set}
-use Rattle.model.proofs.Buckets.{unpack-bit, own-read, own-fits, own-coded, length-own}
+use Rattle.model.proofs.Buckets.{own-fits, own-coded, length-own}
 
 module _ (w : ℕ) (rs : List Row) (wide : Wide (allRows w rs)) (b : Bucket) (s : Sound 0 (allRows w rs) 64 (levelsOf rs b)) (a : ℕ) (la : a < 64) where
   abbrev os : List ℕ

@@ -2,20 +2,19 @@
 use mathlib.Core.Path.{_≡_, refl, sym, ap, ap₂, _∙_}
 use mathlib.Core.List.{List, [], _∷_, map}
 use Prim.Native.Nat.{ℕ, zero, suc, _+_, _*_, _/_, _%_, _^_, _≤_, _<_, zero-le}
-use native.Mathlib.Nat.{le-refl, le-trans, le-of-eq, le-of-suc-le-suc, not-suc-le-zero, zero-lt-suc, zero-mul, one-mul, mod-one, mod-eq-of-lt, zero-mod, div-lt-iff-lt-mul, add-mul, mul-assoc, mul-comm, add-comm}
+use native.Mathlib.Nat.{le-refl, le-trans, le-of-eq, le-of-suc-le-suc, not-suc-le-zero, zero-lt-suc, zero-mul, one-mul, mod-one, mod-eq-of-lt, zero-mod, div-lt-iff-lt-mul}
 use native.Mathlib.Omega.{arith}
 use lib.ListN.{length, getD, length-map}
-use lib.Seq.{ext-getD}
 use lib.Pow.{pow-pos, mod-pow-add, pow-add}
 use lib.Count.{ones}
-use Rattle.model.specs.Lists.{sum, tabulate}
+use Rattle.model.specs.Lists.{sum}
 use Rattle.model.specs.Packed.{rank, pack, unpack, entry, bit}
 use Rattle.model.specs.Shapes.{Row}
 use Rattle.model.specs.Levels.{sign, nonzero, uppers, parts, marks, onward, Level, level, encode}
-use Rattle.model.proofs.Lists.{Below, Least, below-at, least-at, least-of, length-tab, getD-tab}
-use Rattle.model.proofs.Packing.{rank-ones, rank-all, pack-entry, bit-pack, rank-pack, pack-lt, ones-pack, pack-unpack, below-unpack, length-unpack, unpack-pack}
+use Rattle.model.proofs.Lists.{Below, Least, below-at, least-at, least-of}
+use Rattle.model.proofs.Packing.{rank-ones, rank-all, pack-entry, bit-pack, rank-pack, pack-lt, ones-pack, pack-unpack, below-unpack, length-unpack}
 use Rattle.model.proofs.Ranks.{rankIn, rank-sum, below-sign, least-nonzero, scatter, sign-scatter, nonzero-scatter, length-scatter}
-use Rattle.model.proofs.Values.{below-parts, onward-at, part-at, sum-level, mark-le, le-mark, joinParts, parts-join, uppers-join, length-join, length-onward, mark-at}
+use Rattle.model.proofs.Values.{below-parts, onward-at, part-at, mark-le, le-mark, joinParts, parts-join, uppers-join, length-join, length-onward, mark-at}
 
 -- the bits of a counter from this row on
 abbrev pub height : List Row → ℕ
@@ -185,15 +184,3 @@ unfoldable pub total : ℕ → List Row → ℕ → List Level → ℕ
 total l [] n ls = 0
 total l (r ∷ rs) n [] = 0
 total l (r ∷ rs) n (c ∷ ls) = sum (unpack (r .width) n (c .cells)) * 2 ^ l + total (l + r .width) rs (ones (c .marks)) ls
-
-unpack-encode : (w : ℕ) (vs : List ℕ) → unpack w (length vs) (pack w (parts w vs)) ≡ parts w vs
-unpack-encode w vs = rw length-map at (unpack-pack w (parts w vs) (below-parts w vs))
-
-pub total-encode : (l : ℕ) (rs : List Row) (vs : List ℕ) → Fits rs vs → total l rs (length vs) (encode rs vs) ≡ sum vs * 2 ^ l
-unfolding encode total
-total-encode l [] [] f = sym (zero-mul (2 ^ l))
-total-encode l [] (v ∷ vs) f = absurd (not-suc-le-zero f)
-total-encode l (r ∷ rs) vs f =
-    let w : ℕ = r .width in
-    rw (unpack-encode w vs, ones-marks w vs, total-encode (l + w) rs (onward w vs) (f .1), sum-level w vs)
-    (rw (pow-add, add-mul, mul-assoc, mul-comm (2 ^ w) (2 ^ l)) (add-comm (sum (parts w vs) * 2 ^ l) (sum (onward w vs) * (2 ^ l * 2 ^ w))))

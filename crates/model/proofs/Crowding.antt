@@ -1,26 +1,21 @@
 -- When the levels above the first have no room for the counts, said of the counts alone; that it is the levels' own rule; that it only rises.
-use mathlib.Core.Path.{_≡_, refl, sym, ap, ap₂, _∙_}
+use mathlib.Core.Path.{_≡_, refl, sym, ap₂, _∙_}
 use mathlib.Core.Bool.{Bool, true, false, not, _||_}
 use mathlib.Core.Logic.{_↔_}
-use mathlib.Core.List.{List, [], _∷_, map}
+use mathlib.Core.List.{List, [], _∷_}
 use Prim.Native.Nat.{ℕ, zero, suc, _+_, _/_, _^_, _≤_, _<_, zero-le}
-use native.Mathlib.Nat.{le-refl, le-trans, zero-add, add-le-add, div-eq-of-lt, not-suc-le-zero}
+use native.Mathlib.Nat.{le-refl, le-trans, zero-add, add-le-add, div-eq-of-lt}
 use native.Mathlib.Numerals.{one-add}
-use lib.Dec.{T, leb, ltb, leb→le, le→leb, nleb→lt, nltb→le, ltb→lt, lt→ltb, not-T, T-not}
+use lib.Dec.{T, leb, ltb, leb→le, le→leb, nleb→lt, nltb→le, ltb→lt, lt→ltb}
 use lib.Arith.{le→nltb, lt→nleb}
 use lib.ListN.{length, getD, set}
 use native.Mathlib.Omega.{arith}
 use Rattle.model.specs.Lists.{sum, oneIf}
 use Rattle.model.specs.Shapes.{Row, counterBits}
-use Rattle.model.specs.Levels.{sign, keep, marks, onward, atLeast, crowded}
+use Rattle.model.specs.Levels.{sign, keep, onward, atLeast, crowded}
 use Rattle.model.proofs.Ranks.{sign-one}
 use Rattle.model.proofs.Values.{onward-onward, div-pos}
 use Rattle.model.proofs.Coding.{Fits}
-
--- the levels' rule: us are the values that reach the level of the first row
-unfoldable pub overfull : List Row → List ℕ → Bool
-overfull [] us = false
-overfull (r ∷ rs) us = ltb (r .entries) (length us) || overfull rs (onward (r .width) us)
 
 sign-leb : (l v : ℕ) → oneIf (leb (2 ^ l) v) ≡ sign (v / 2 ^ l)
 sign-leb l v = go (leb (2 ^ l) v) refl
@@ -29,30 +24,9 @@ sign-leb l v = go (leb (2 ^ l) v) refl
     go true e = sym (sign-one (v / 2 ^ l) (div-pos l (leb→le (2 ^ l) v (rw e tt))))
     go false e = rw (div-eq-of-lt (nleb→lt (2 ^ l) v (rw e tt)))
 
--- the marks and what goes on, as they are read off the values
-pub marks-leb : (l : ℕ) (vs : List ℕ) → marks l vs ≡ map (λ v. oneIf (leb (2 ^ l) v)) vs
-marks-leb l [] = refl
-marks-leb l (v ∷ vs) = ap₂ _∷_ (sym (sign-leb l v)) (marks-leb l vs)
-
 abbrev pub pass : Bool → ℕ → List ℕ → List ℕ
 pass true v vs = v ∷ vs
 pass false v vs = vs
-
-abbrev pub filter : (ℕ → Bool) → List ℕ → List ℕ
-filter p [] = []
-filter p (v ∷ vs) = pass (p v) v (filter p vs)
-
-keep-pos : (q : ℕ) (qs : List ℕ) → 0 < q → keep q qs ≡ q ∷ qs
-keep-pos zero qs h = absurd (not-suc-le-zero h)
-keep-pos (suc q) qs h = refl
-
-pub onward-filter : (l : ℕ) (vs : List ℕ) → onward l vs ≡ map (λ v. v / 2 ^ l) (filter (leb (2 ^ l)) vs)
-onward-filter l [] = refl
-onward-filter l (v ∷ vs) = go (leb (2 ^ l) v) refl (filter (leb (2 ^ l)) vs) (onward-filter l vs)
-  where
-    go : (b : Bool) → leb (2 ^ l) v ≡ b → (us : List ℕ) → onward l vs ≡ map (λ x. x / 2 ^ l) us → keep (v / 2 ^ l) (onward l vs) ≡ map (λ x. x / 2 ^ l) (pass b v us)
-    go true e us h = keep-pos (v / 2 ^ l) (onward l vs) (div-pos l (leb→le (2 ^ l) v (rw e tt))) ∙ ap (λ r. v / 2 ^ l ∷ r) h
-    go false e us h = rw (div-eq-of-lt (nleb→lt (2 ^ l) v (rw e tt))) h
 
 length-keep : (q : ℕ) (qs : List ℕ) → length (keep q qs) ≡ sign q + length qs
 length-keep zero qs = sym (zero-add (length qs))
@@ -62,11 +36,6 @@ pub length-onward-count : (l : ℕ) (vs : List ℕ) → length (onward l vs) ≡
 unfolding atLeast
 length-onward-count l [] = refl
 length-onward-count l (v ∷ vs) = length-keep (v / 2 ^ l) (onward l vs) ∙ ap₂ _+_ (sym (sign-leb l v)) (length-onward-count l vs)
-
-pub crowded-overfull : (l : ℕ) (rs : List Row) (vs : List ℕ) → crowded l rs vs ≡ overfull rs (onward l vs)
-unfolding crowded overfull
-crowded-overfull l [] vs = refl
-crowded-overfull l (r ∷ rs) vs = rw (length-onward-count l vs, onward-onward (r .width) l vs, crowded-overfull (l + r .width) rs vs)
 
 -- ---- to fit is not to be crowded, and to have no value past the last level
 
@@ -137,12 +106,6 @@ under-set [] a v′ h = tt
 under-set (v ∷ vs) zero v′ h = (h, under-refl vs)
 under-set (v ∷ vs) (suc a) v′ h = (le-refl v, under-set vs a v′ h)
 
-pub under-length : (us vs : List ℕ) → Under us vs → length us ≡ length vs
-under-length [] [] h = refl
-under-length [] (v ∷ vs) h = absurd h
-under-length (u ∷ us) [] h = absurd h
-under-length (u ∷ us) (v ∷ vs) h = ap suc (under-length us vs (h .1))
-
 -- ---- a whole bucket: its first row has an entry for each count, and the document's rule is of the rows after it
 
 pub bucket-fits : (r : Row) (rs : List Row) (vs : List ℕ) → length vs ≤ r .entries
@@ -151,14 +114,6 @@ bucket-fits r rs vs l = (
   (λ f. fits-uncrowded (r .width) rs vs (f .1)),
   (λ h. (l, uncrowded-fits (r .width) rs vs (h .0) (h .1))),
 )
-
-pub under-trans : (us vs ws : List ℕ) → Under us vs → Under vs ws → Under us ws
-under-trans [] [] [] h k = tt
-under-trans [] [] (w ∷ ws) h k = absurd k
-under-trans [] (v ∷ vs) ws h k = absurd h
-under-trans (u ∷ us) [] ws h k = absurd h
-under-trans (u ∷ us) (v ∷ vs) [] h k = absurd k
-under-trans (u ∷ us) (v ∷ vs) (w ∷ ws) h k = (le-trans (h .0) (k .0), under-trans us vs ws (h .1) (k .1))
 
 pub T-true : (b : Bool) → T b → true ≡ b
 T-true true t = refl

@@ -26,7 +26,7 @@ use Rattle.model.proofs.Parsing.{Shaped, Coded, coded-of, read-head, he
 use Rattle.model.proofs.SoundWalls.{SoundWall, check-sound, of-sound}
 use Rattle.model.proofs.OwnSteps.{length-countsAt}
 use Rattle.model.proofs.Steps.{Stepped, step-sound}
-use Rattle.model.proofs.Refusals.{Named, first-clear, clear-first, first-skip, answer-no, answer-done}
+use Rattle.model.proofs.Refusals.{Named, first-clear, clear-first, answer-no, answer-done}
 
 -- ---- the words of a sound wall are accepted
 

@@ -3,7 +3,7 @@ use mathlib.Core.Path.{_≡_, sym, ap, _∙_, subst}
 use mathlib.Core.List.{List, [], _∷_}
 use Prim.Native.Nat.{ℕ, _<_}
 use Rattle.model.specs.Slots.{slot}
-use Rattle.model.specs.Walls.{Header, flows, parse}
+use Rattle.model.specs.Walls.{Header, flows}
 use Rattle.model.specs.Calls.{Outcome, increment}
 use Rattle.model.specs.Runs.{run}
 use Rattle.model.proofs.Lists.{Below}

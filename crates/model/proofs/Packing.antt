@@ -1,5 +1,5 @@
 -- A packed word: the entries of a list, each in w bits, the first lowest. Every law is for any width and any list.
-use mathlib.Core.Path.{_≡_, refl, sym, ap, ap₂, _∙_}
+use mathlib.Core.Path.{_≡_, refl, sym, ap, _∙_}
 use mathlib.Core.List.{List, [], _∷_, _++_}
 use Prim.Native.Nat.{ℕ, zero, suc, _+_, _*_, _/_, _%_, _^_, _≤_, _<_}
 use native.Mathlib.Nat.{le-of-suc-le-suc, not-suc-le-zero, zero-lt-suc, zero-div, zero-mod, div-one, mod-one, mod-lt, mul-zero, mul-suc, mul-one, mul-assoc, add-mul, add-zero, add-comm, add-assoc, one-mul, mod-eq-of-lt}
@@ -59,13 +59,6 @@ module _ (w : ℕ) (es : List ℕ) (a v : ℕ) (h : Below (2 ^ w) es) where
   pack-insert l =
       let k : length (take a es) ≡ a = length-take-le a es l in
       rw (insert-split es a v, pack-append, k, pack-take w es a h, pack-drop w es a h)
-
--- the same by what is added: an entry that rises by d adds d at its place
-pub pack-raise : (w : ℕ) (es : List ℕ) (a d : ℕ) → a < length es → pack w (set es a (getD es a 0 + d)) ≡ pack w es + d * 2 ^ (w * a)
-pack-raise w [] a d l = absurd (not-suc-le-zero l)
-pack-raise w (e ∷ es) zero d l = rw (mul-zero, mul-one, add-assoc)
-pack-raise w (e ∷ es) (suc a) d l =
-    rw (pack-raise w es a d (le-of-suc-le-suc l), mul-suc, pow-add, add-mul, mul-assoc) (omega arith)
 
 -- ---- a word of n entries and its list determine each other
 

@@ -123,11 +123,6 @@ least-nonzero [] = tt
 least-nonzero (zero ∷ qs) = least-nonzero qs
 least-nonzero (suc q ∷ qs) = (zero-lt-suc q, least-nonzero qs)
 
-pub scatter-self : (qs : List ℕ) → scatter (map sign qs) (nonzero qs) ≡ qs
-scatter-self [] = refl
-scatter-self (zero ∷ qs) = ap (λ (r : List ℕ). 0 ∷ r) (scatter-self qs)
-scatter-self (suc q ∷ qs) = ap (λ (r : List ℕ). suc q ∷ r) (scatter-self qs)
-
 pub length-scatter : (ms us : List ℕ) → length (scatter ms us) ≡ length ms
 length-scatter [] us = refl
 length-scatter (zero ∷ ms) us = ap suc (length-scatter ms us)

@@ -8,9 +8,9 @@ use native.Mathlib.Nat.{not-suc-le-zero, le-of-suc-le-suc}
 use native.Mathlib.Omega.{arith}
 use lib.Dec.{T}
 use Rattle.model.specs.Lists.{choose, every, lowest}
-use Rattle.model.specs.Walls.{fresh, flatten, parse, good, readHeader}
+use Rattle.model.specs.Walls.{flatten, parse}
 use Rattle.model.specs.Sound.{count}
-use Rattle.model.specs.Calls.{Clear, Outcome, Refusal, refuse, firstMet, outcome, reply, lookup, increment, close, raise, raiseRefusals, asked, check, bucketRefusals, stepRefusals, raisedBy}
+use Rattle.model.specs.Calls.{Clear, Outcome, Refusal, firstMet, outcome, reply, lookup, increment, bucketRefusals, stepRefusals, raisedBy}
 
 abbrev pub Named : List Refusal → Type 0
 Named [] = Unit {0}
@@ -40,11 +40,6 @@ first-skip (r ∷ rs) ss c = go (r .met) (c .0) (first-skip rs ss (c .1))
     go : (b : Bool) → T (not b) → firstMet (rs ++ ss) ≡ firstMet ss → choose b (r .number) (firstMet (rs ++ ss)) ≡ firstMet ss
     go true t e = absurd t
     go false t e = e
-
--- of two lists neither is met
-pub clear-append : (rs ss : List Refusal) → Clear (rs ++ ss) → Clear rs × Clear ss
-clear-append [] ss c = (tt, c)
-clear-append (r ∷ rs) ss c = let d = clear-append rs ss (c .1) in ((c .0, d .0), d .1)
 
 module _ (v : ℕ) (done ws : List ℕ) where
   pub answer-no : (n : ℕ) → outcome n v done ws .number ≡ n
@@ -139,12 +134,3 @@ first-met rs r ss c t = first-skip rs (r ∷ ss) c ∙ go (r .met) t
     go : (b : Bool) → T b → choose b (r .number) (firstMet ss) ≡ r .number
     go true t = refl
     go false t = absurd t
-
--- what follows refusals that are not met may be exchanged for what gives the same number
-pub first-same : (rs ss us : List Refusal) → (Clear rs → firstMet ss ≡ firstMet us) → firstMet (rs ++ ss) ≡ firstMet (rs ++ us)
-first-same [] ss us h = h tt
-first-same (r ∷ rs) ss us h = go (r .met) (λ t. first-same rs ss us (λ c. h (t, c)))
-  where
-    go : (b : Bool) → (T (not b) → firstMet (rs ++ ss) ≡ firstMet (rs ++ us)) → choose b (r .number) (firstMet (rs ++ ss)) ≡ choose b (r .number) (firstMet (rs ++ us))
-    go true f = refl
-    go false f = f tt

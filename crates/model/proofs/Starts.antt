@@ -1,6 +1,6 @@
 -- A wall raised or closed is the fresh wall of its header, and demand 3 starts there; prefixes.
 use mathlib.Core.Logic.{_↔_}
-use mathlib.Core.Path.{_≡_, refl, sym, ap, _∙_, subst}
+use mathlib.Core.Path.{_≡_, refl, sym, ap, _∙_}
 use mathlib.Core.List.{List, [], _∷_, _++_}
 use Prim.Native.Nat.{ℕ, zero, suc, _≤_, zero-le}
 use native.Mathlib.Omega.{arith}
@@ -13,9 +13,9 @@ use Rattle.model.specs.Walls.{Header, wallSize, limitFits, fullFits, rea
 use Rattle.model.specs.Calls.{Outcome, firstMet, asked, raiseRefusals, raise, closeRefusals, close, increment}
 use Rattle.model.specs.Runs.{run}
 use Rattle.model.proofs.Tools.{tests-and, not-not, to-not-not}
-use Rattle.model.proofs.Headers.{Limits, rows-fine, limits-of, shape-test, bits-test, limit-test, full-test, good-of, eq-eqb}
+use Rattle.model.proofs.Headers.{Limits, rows-fine, limits-of, shape-test, bits-test, limit-test, full-test, eq-eqb}
 use Rattle.model.proofs.Refusals.{clear-first, first-clear, answer-no, answer-done}
-use Rattle.model.proofs.Demand3.{On, fresh-on, run-on, run-first}
+use Rattle.model.proofs.Demand3.{run-on, run-first}
 
 width-low : (w : ℕ) → 1 ≤ widthAsked w
 width-low zero = lit≤ tt

@@ -1,11 +1,10 @@
 -- One level of width w over the values vs that reach it: what it stores, what it marks, and what goes on to the next.
-use mathlib.Core.Path.{_≡_, refl, sym, ap, ap₂, _∙_}
+use mathlib.Core.Path.{_≡_, refl, ap, ap₂, _∙_}
 use mathlib.Core.List.{List, [], _∷_, map}
 use Prim.Native.Nat.{ℕ, zero, suc, _+_, _*_, _/_, _%_, _^_, _≤_, _<_}
 use native.Mathlib.Nat.{le-trans, le-of-eq, zero-mul, one-mul, zero-div, mod-lt, zero-mod, div-eq-of-lt, le-div-iff-mul-le, add-mul, div-self, mod-self, suc-mul}
 use native.Mathlib.Omega.{arith}
 use lib.ListN.{length, getD, set, length-map}
-use lib.Seq.{set-getD}
 use lib.Pow.{pow-pos, shr-shr, split, high, low}
 use Rattle.model.specs.Lists.{sum}
 use Rattle.model.specs.Levels.{sign, nonzero, uppers, parts, marks, onward}

@@ -115,8 +115,11 @@ isEmptyFull f = eqb (f .moved) 0 && eqb (sum (f .counts)) 0
 abbrev pub soundBuckets : Wall → Bool
 soundBuckets v = every (bucketsIn (v .header)) (soundAt v)
 
+-- the full-size buckets from U up
+abbrev pub fullsZero : Wall → Bool
+fullsZero v = every (v .header .full) (λ q. byMark (oneIf (leb (v .header .used) q)) true (isEmptyFull (getD (v .fulls) q emptyFull)))
+
 -- besides its buckets: the counts add up to the total, each number below U has exactly one holder, and the full-size buckets from U up are zero
 unfoldable pub soundRest : Wall → Bool
 soundRest v =
-    all (eqb (allCounts v) (v .header .total) ∷ every (v .header .used) (λ q. eqb (holders v q) 1)
-    ∷ every (v .header .full) (λ q. byMark (oneIf (leb (v .header .used) q)) true (isEmptyFull (getD (v .fulls) q emptyFull))) ∷ [])
+    all (eqb (allCounts v) (v .header .total) ∷ every (v .header .used) (λ q. eqb (holders v q) 1) ∷ fullsZero v ∷ [])

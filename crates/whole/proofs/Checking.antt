@@ -10,14 +10,14 @@ use lib.Dec.{T, eqb, eqb→eq, T-not, not-T}
 use Rattle.model.specs.Lists.{all, choose, every, lowest, sum, tabulate}
 use Rattle.model.specs.Levels.{sign}
 use Rattle.model.specs.Walls.{Wall, bucketsIn, good, parse}
-use Rattle.model.specs.Sound.{allCounts, holders, soundAt, soundBuckets, soundRest}
+use Rattle.model.specs.Sound.{allCounts, fullsZero, holders, soundAt, soundBuckets, soundRest}
 use Rattle.model.specs.Calls.{Refusal, refuse, firstMet, check, checkRefusals}
 use Rattle.model.proofs.Tests.{every-at, every-of}
 use Rattle.model.proofs.Tools.{all-tests, tests-all, to-not-not}
 use Rattle.model.proofs.Headers as model
 use Rattle.model.proofs.Refusals.{first-met, first-clear}
 use Rattle.whole.specs.declared.Tally.{Tally}
-use Rattle.whole.specs.Check.{Passed, fullsZero, holdersTo}
+use Rattle.whole.specs.Check.{Passed, holdersTo}
 use Rattle.header.proofs.Opening.{bool-eq, is-false}
 use Rattle.whole.proofs.Holding.{each-one, sum-units}
 
@@ -49,7 +49,7 @@ module _ (v : Wall) (t : Tally) (p : Passed v (bucketsIn (v .header)) t) where
   tests = eqb (allCounts v) (v .header .total) ∷ every u (λ q. eqb (holders v q) 1) ∷ fullsZero v ∷ []
 
   rest-tests : soundRest v ≡ all tests
-  unfolding soundRest fullsZero
+  unfolding soundRest
   rest-tests = refl
 
   counted : t .sum ≡ allCounts v

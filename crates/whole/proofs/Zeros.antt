@@ -11,14 +11,13 @@ use lib.ListN.{length, getD, take, drop, length-drop, drop-of-length-le}
 use lib.Seq.{drop-drop}
 use Rattle.model.specs.Lists.{sum, oneIf, byMark, every}
 use Rattle.model.specs.Walls.{Full, Header, Wall, bucketsIn, bucketLength, wordAt, readFull, parse, emptyFull}
-use Rattle.model.specs.Sound.{isEmptyFull}
+use Rattle.model.specs.Sound.{fullsZero, isEmptyFull}
 use Rattle.model.proofs.Tests.{every-at, every-of}
 use Rattle.model.proofs.Tools.{and-tests, tests-and}
 use Rattle.model.proofs.Headers as model
 use Rattle.layout.specs.declared.Wall as layout
 use Rattle.layout.specs.Views.{headerOf}
 use Rattle.header.specs.Headers.{Open}
-use Rattle.whole.specs.Check.{fullsZero}
 use Rattle.header.proofs.Opening.{bool-eq}
 use Rattle.header.proofs.Places.{full-here, open-header, open-length, open-limits}
 
@@ -98,7 +97,6 @@ module _ (ws : List ℕ) (v : layout.Wall) (o : Open ws v) where
       (zero-empty (take 65 (drop (start q) ws)) (ap (λ x. sum (take 65 x)) (sym (drop-drop k (start (v .used)) ws ∙ ap (λ n. drop n ws) s)) ∙ z))
 
   pub zero-words : eqb (sum (drop (start (v .used)) ws)) 0 ≡ fullsZero (parse ws)
-  unfolding fullsZero
   zero-words =
       let x : ℕ = sum (drop (start (v .used)) ws) in
       let ej : v .full ≡ parse ws .header .full = ap (λ (h : Header). h .full) (open-header ws v o) in

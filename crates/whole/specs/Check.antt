@@ -1,16 +1,16 @@
 -- What the check of a whole wall has found when it passed its first i buckets.
 use mathlib.Core.Logic.{_≢_}
 use mathlib.Core.Path.{_≡_}
-use mathlib.Core.Bool.{Bool, true, not}
+use mathlib.Core.Bool.{not}
 use mathlib.Core.List.{List}
 use Prim.Native.Nat.{ℕ, _+_, _/_, _%_, _^_, _≤_, _<_}
-use lib.Dec.{T, leb}
+use lib.Dec.{T}
 use lib.ListN.{getD, length}
-use Rattle.model.specs.Lists.{oneIf, byMark, every, lowest, sum, tabulate}
+use Rattle.model.specs.Lists.{lowest, sum, tabulate}
 use Rattle.model.specs.Packed.{bit}
 use Rattle.model.specs.Levels.{sign}
-use Rattle.model.specs.Walls.{Wall, bucketsIn, emptyFull}
-use Rattle.model.specs.Sound.{bucketAt, countsAt, holdsNumber, isEmptyFull, soundAt, soundBuckets}
+use Rattle.model.specs.Walls.{Wall, bucketsIn}
+use Rattle.model.specs.Sound.{bucketAt, countsAt, holdsNumber, soundAt, soundBuckets}
 use Rattle.whole.specs.declared.Tally.{Tally}
 use Rattle.whole.specs.declared.Step.{Step}
 use Rattle.whole.specs.declared.Step as step
@@ -60,8 +60,3 @@ Weighed v i seen step.the-variants.Unsound = T (not (soundAt v i))
 abbrev pub Counted : Wall → Found → Type 0
 Counted v (found.the-variants.Sound t) = Passed v (bucketsIn (v .header)) t
 Counted v (found.the-variants.Unsound i) = T (not (soundBuckets v)) × (i ≡ lowest (bucketsIn (v .header)) (soundAt v))
-
--- ---- the full-size buckets from U up
-
-unfoldable pub fullsZero : Wall → Bool
-fullsZero v = every (v .header .full) (λ q. byMark (oneIf (leb (v .header .used) q)) true (isEmptyFull (getD (v .fulls) q emptyFull)))

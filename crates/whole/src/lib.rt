@@ -6,11 +6,11 @@ ghost use mathlib.Core.Path.{_≡_};
 ghost use Prim.Native.Nat.{_<_};
 ghost use Rattle.answer.specs.Answers.{outcomeOf};
 ghost use Rattle.model.specs.Walls.{bucketsIn, parse};
-ghost use Rattle.model.specs.Sound.{soundRest};
+ghost use Rattle.model.specs.Sound.{fullsZero, soundRest};
 ghost use Rattle.model.specs.Calls as model;
 ghost use Rattle.layout.specs.Views.{headerOf};
 ghost use Rattle.header.specs.Headers.{Open};
-ghost use Rattle.whole.specs.Check.{Bitmap, Counted, Noted, Passed, Seen, Weighed, fullsZero, seenAt};
+ghost use Rattle.whole.specs.Check.{Bitmap, Counted, Noted, Passed, Seen, Weighed, seenAt};
 
 // Of the buckets passed: their counts added up, how many are flagged, and how many of those hold a number that one before them holds.
 struct Tally {
