@@ -16,7 +16,7 @@ use Rattle.model.specs.Levels.{Level, soundLevels}
 use Rattle.model.specs.Walls.{Bucket, Full}
 use Rattle.model.specs.Sound.{upperMarks, spareBits, flag, fullNumber, levelsOf, ownCounts, bucketCounts, soundPlace, soundBucket}
 use Rattle.model.proofs.Tests.{every-at, every-of}
-use Rattle.model.proofs.Tools.{and-tests, tests-and, all-tests, tests-all}
+use Rattle.model.proofs.Tools.{bool-eq, and-tests, tests-and, all-tests, tests-all}
 use Rattle.model.proofs.Buckets.{bucket-facts, facts-bucket, levels-sound, sound-levels, length-own}
 use Rattle.uppers.specs.declared.Judged.{Judged}
 use Rattle.uppers.specs.declared.Judged.the-variants.{Sound, Unsound}
@@ -26,7 +26,7 @@ use Rattle.uppers.proofs.Verdicts.{said-sound, said-not}
 use Rattle.sums.specs.Sums.{firstSum}
 use Rattle.uppers.specs.Uppers.{rowsBy, levelsBy, markBits, soundBy, sumBy, judged, Ahead}
 use Rattle.plain.specs.Plain.{bucketIn}
-use Rattle.plain.proofs.Soundness.{bool-eq, under, marks-sum, levels-same, packed-here, sum-here, sum-small}
+use Rattle.plain.proofs.Soundness.{under, marks-sum, levels-same, packed-here, sum-here, sum-small}
 use Rattle.fulls.proofs.Gains.{own-over}
 
 module _ (w n e v : ℕ) (ws : List ℕ) (at : ℕ) (h : at + w + 1 + n ≤ length ws) (each : (i : ℕ) → getD ws i 0 < 2 ^ 64) where

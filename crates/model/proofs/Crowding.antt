@@ -24,10 +24,6 @@ sign-leb l v = go (leb (2 ^ l) v) refl
     go true e = sym (sign-one (v / 2 ^ l) (div-pos l (leb→le (2 ^ l) v (rw e tt))))
     go false e = rw (div-eq-of-lt (nleb→lt (2 ^ l) v (rw e tt)))
 
-abbrev pub pass : Bool → ℕ → List ℕ → List ℕ
-pass true v vs = v ∷ vs
-pass false v vs = vs
-
 length-keep : (q : ℕ) (qs : List ℕ) → length (keep q qs) ≡ sign q + length qs
 length-keep zero qs = sym (zero-add (length qs))
 length-keep (suc q) qs = sym (one-add (length qs))

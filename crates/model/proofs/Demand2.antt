@@ -1,7 +1,7 @@
 -- Demand 2: on a wall that the check accepts, an accepted increment raises one count by one and no other, and lookup answers the count.
 use mathlib.Core.Logic.{_≢_}
 use mathlib.Core.Path.{_≡_, refl, sym, ap, _∙_, subst, subst₂}
-use mathlib.Core.Bool.{Bool, true, false, not, _&&_}
+use mathlib.Core.Bool.{true, false, not, _&&_}
 use mathlib.Core.List.{List, _++_, map}
 use Prim.Native.Nat.{ℕ, _+_, _*_, _/_, _%_, _≤_, _<_}
 use native.Mathlib.Nat.{le-refl, mod-lt}
@@ -19,7 +19,7 @@ use Rattle.model.specs.Calls.{Clear, Outcome, firstMet, noRoom, overflow
 use Rattle.model.specs.After.{ownAfter, fullAfter}
 use Rattle.model.proofs.Tests.{every-at}
 use Rattle.model.proofs.Slots.{slot-inj}
-use Rattle.model.proofs.Tools.{by-eq}
+use Rattle.model.proofs.Tools.{by-eq, to-not-not}
 use Rattle.model.proofs.Pieces.{length-cat}
 use Rattle.model.proofs.Headers.{Good, Limits, of-good, bucket-lt}
 use Rattle.model.proofs.Parsing.{Shaped, Coded, coded-of, read-head, head-marked, parse-flatten, offset-fulls, sized-fulls}
@@ -197,20 +197,16 @@ increment-raises ws y ok e =
 pub own-clear : (ws : List ℕ) (y : ℕ) → Accepted ws → y < flows (parse ws .header) → Clear (bucketRefusals ws y)
 own-clear ws y ok h =
     let a = check-sound ws .0 ok in (
-      not-not (good ws) (of-good ws (a .0)),
+      to-not-not (good ws) (of-good ws (a .0)),
       (
         lt→nleb (flows (parse ws .header)) y h,
         (
-          not-not (soundAt (parse ws) (bucketOf (parse ws .header) y))
+          to-not-not (soundAt (parse ws) (bucketOf (parse ws .header) y))
               (every-at (bucketsIn (parse ws .header)) (soundAt (parse ws)) (of-sound (parse ws) (a .1) .0) (bucketOf (parse ws .header) y) (bucket-lt (parse ws .header .bits) y (a .1 .limits .bits-low))),
           tt,
         ),
       ),
     )
-  where
-    not-not : (b : Bool) → T b → T (not (not b))
-    not-not true t = tt
-    not-not false t = t
 
 pub lookup-count : (ws : List ℕ) (y : ℕ) → Accepted ws → y < flows (parse ws .header) → lookup ws y ≡ record { number = 0; value = count (parse ws) y; words = ws }
 unfolding lookup

@@ -1,7 +1,7 @@
 -- Number 11 never occurs, for any words and any flow number.
 use mathlib.Core.Logic.{_≢_}
 use mathlib.Core.Path.{_≡_, sym, _∙_, subst}
-use mathlib.Core.Bool.{Bool, true, false, not, _&&_}
+use mathlib.Core.Bool.{not, _&&_}
 use mathlib.Core.List.{List, [], _∷_, _++_}
 use Prim.Native.Nat.{ℕ, _+_, _≤_, _<_}
 use native.Mathlib.Nat.{le-trans}
@@ -11,6 +11,7 @@ use lib.Arith.{lt-of-le-ne}
 use Rattle.model.specs.Walls.{Wall, countEnd, good, flatten, parse, bucketOf, placeOf}
 use Rattle.model.specs.Sound.{bucketAt, fullFor, countsAt, soundAt, count}
 use Rattle.model.specs.Calls.{Clear, Refusal, refuse, firstMet, overflows, bucketRefusals, stepRefusals, raisedBy, increment}
+use Rattle.model.proofs.Tools.{not-not}
 use Rattle.model.proofs.Headers.{Limits, good-of}
 use Rattle.model.proofs.Sums.{sum-at}
 use Rattle.model.proofs.Buckets.{bucket-facts}
@@ -36,10 +37,6 @@ stepAlone v y =
 
 abbrev pub refusals : List ℕ → ℕ → List Refusal
 refusals ws y = bucketRefusals ws y ++ stepAlone (parse ws) y
-
-not-not : (b : Bool) → T (not (not b)) → T b
-not-not true t = tt
-not-not false t = t
 
 before : List ℕ → ℕ → List Refusal
 before ws y = bucketRefusals ws y ++ refuse 10 (eqb (parse ws .header .total) (parse ws .header .limit)) ∷ []

@@ -2,7 +2,7 @@
 use mathlib.Core.Path.{_≡_, refl, sym, ap, _∙_}
 use mathlib.Core.List.{List, [], _∷_, _++_}
 use Prim.Native.Nat.{ℕ, zero, suc, _+_, _*_, _/_, _%_, _^_, _≤_, _<_}
-use native.Mathlib.Nat.{le-of-suc-le-suc, not-suc-le-zero, zero-lt-suc, zero-div, zero-mod, div-one, mod-one, mod-lt, mul-zero, mul-suc, mul-one, mul-assoc, add-mul, add-zero, add-comm, add-assoc, one-mul, mod-eq-of-lt}
+use native.Mathlib.Nat.{le-of-suc-le-suc, not-suc-le-zero, zero-lt-suc, zero-div, zero-mod, div-one, mod-one, mod-lt, mul-zero, mul-suc, mul-one, mul-comm, mul-assoc, mul-le-mul-left, add-mul, add-zero, add-comm, add-assoc, one-mul, mod-eq-of-lt}
 use native.Mathlib.Omega.{arith}
 use lib.ListN.{length, take, drop, getD, set}
 use lib.Seq.{set-split, length-take-le}
@@ -103,3 +103,7 @@ rank-ones x a = ap (λ n. ones (x % 2 ^ n)) (sym (one-mul a)) ∙ ap ones (sym (
 
 pub rank-all : (x n : ℕ) → x < 2 ^ n → rank x n ≡ ones x
 rank-all x n h = sym (rank-ones x n) ∙ ap ones (mod-eq-of-lt h)
+
+-- entry a of 64 lies within 64 entries
+pub first-fits : (w a : ℕ) → a < 64 → w * a + w ≤ 64 * w
+first-fits w a h = let k : suc a ≤ 64 = h in omega (arith, mul-suc w a, mul-comm w 64, mul-le-mul-left w k)

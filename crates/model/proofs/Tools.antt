@@ -52,6 +52,13 @@ by-eq k i {P} f g = go (eqb k i) refl
     go true e = f (eqb→eq k i (rw e tt))
     go false e = g (λ q. subst T (sym (sym e ∙ ap (λ x. eqb x i) q)) (eqb-refl i))
 
+-- two tests that pass together are equal
+pub bool-eq : (a b : Bool) → (T a → T b) → (T b → T a) → a ≡ b
+bool-eq true true f g = refl
+bool-eq false false f g = refl
+bool-eq true false f g = absurd (f tt)
+bool-eq false true f g = absurd (g tt)
+
 pub and-tests : (a b : Bool) → T (a && b) → T a × T b
 and-tests true b t = (tt, t)
 and-tests false b t = absurd t

@@ -19,7 +19,7 @@ use Rattle.model.specs.Walls.{Bucket, emptyFull}
 use Rattle.model.specs.Sound.{upperMarks, flag, fullNumber, levelsOf, ownCounts, bucketCounts, soundBucket}
 use Rattle.model.proofs.Lists.{Below, below-take}
 use Rattle.model.proofs.Packing.{pack-lt, unpack-pack, rank-all}
-use Rattle.model.proofs.Tools.{and-tests, tests-and}
+use Rattle.model.proofs.Tools.{bool-eq, and-tests, tests-and}
 use Rattle.model.proofs.Values.{below-parts, sum-level}
 use Rattle.model.proofs.Coding.{Fits, used-coded}
 use Rattle.model.proofs.Buckets.{bucket-facts, facts-bucket, levels-sound, sound-levels, own-fits, own-coded, counts-none, length-own, none-places}
@@ -34,12 +34,6 @@ use Rattle.sums.specs.Sums.{firstSum}
 use Rattle.uppers.specs.Uppers.{rowsBy, levelsBy, markBits, soundBy, sumBy, judged, Ahead, marksOf}
 use Rattle.plain.specs.Plain.{bucketIn}
 use Rattle.plain.proofs.Views.{bucket-here, levels-here}
-
-pub bool-eq : (a b : Bool) → (T a → T b) → (T b → T a) → a ≡ b
-bool-eq true true f g = refl
-bool-eq false false f g = refl
-bool-eq true false f g = absurd (f tt)
-bool-eq false true f g = absurd (g tt)
 
 -- ---- the sum of the upper levels stays within a word
 

@@ -1,8 +1,8 @@
--- The count at a place, level by level: what one level gives, and where the entries of level 1 end.
+-- The count at a place, level by level: what one level gives.
 use mathlib.Core.Path.{_≡_, refl, sym, ap, _∙_, subst}
 use mathlib.Core.List.{List, _∷_}
-use Prim.Native.Nat.{ℕ, zero, suc, _+_, _-_, _*_, _/_, _%_, _^_, _≤_, _<_}
-use native.Mathlib.Nat.{zero-mul, zero-add, mul-suc, mul-comm, mul-le-mul-left}
+use Prim.Native.Nat.{ℕ, zero, suc, _+_, _-_, _*_, _/_, _%_, _^_, _≤_}
+use native.Mathlib.Nat.{zero-mul, zero-add}
 use native.Mathlib.Omega.{arith}
 use lib.ListN.{take}
 use lib.Pow.{field, mod-mod-pow}
@@ -37,6 +37,3 @@ entry-take b ws n w a h l =
     let e : b * n - (w * a + w) + (w + w * a) ≡ b * n = omega arith in
     let m : x % 2 ^ (b * n) % 2 ^ (w + w * a) ≡ x % 2 ^ (w + w * a) = subst (λ k. x % 2 ^ k % 2 ^ (w + w * a) ≡ x % 2 ^ (w + w * a)) e (mod-mod-pow x (b * n - (w * a + w)) (w + w * a)) in
     sym (field x w (w * a)) ∙ ap (λ y. y / 2 ^ (w * a)) (sym m) ∙ field (x % 2 ^ (b * n)) w (w * a) ∙ rw (pack-take b ws n h)
-
-pub first-fits : (w a : ℕ) → a < 64 → w * a + w ≤ 64 * w
-first-fits w a k = let m : suc a ≤ 64 = k in omega (arith, mul-suc w a, mul-comm w 64, mul-le-mul-left w m)

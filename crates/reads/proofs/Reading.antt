@@ -2,7 +2,7 @@
 use mathlib.Core.Path.{_≡_, refl, sym, ap, _∙_}
 use mathlib.Core.List.{List, [], _∷_}
 use Prim.Native.Nat.{ℕ, zero, suc, _+_, _-_, _*_, _/_, _%_, _^_, _≤_, _<_}
-use native.Mathlib.Nat.{zero-div, zero-mod, add-mul, mul-assoc, mul-comm, mod-lt, lt-of-lt-of-le, not-suc-le-zero, mul-suc, mul-le-mul-left, add-comm}
+use native.Mathlib.Nat.{zero-div, add-mul, mul-assoc, mul-comm, mod-lt, lt-of-lt-of-le, add-comm}
 use native.Mathlib.Numerals.{add-one, sub-one}
 use native.Mathlib.Omega.{arith}
 use lib.Arith.{digits-lt}
@@ -10,11 +10,12 @@ use lib.ListN.{getD, take, drop}
 use lib.Pow.{pow-add, pow-pos, pow-mono}
 use lib.Seq.{getD-drop}
 use Rattle.model.specs.Packed.{pack, entry, bit, rank}
-use Rattle.model.specs.Shapes.{Row, row, allRows}
-use Rattle.model.specs.Levels.{Level, level, readAt}
+use Rattle.model.specs.Shapes.{row, allRows}
+use Rattle.model.specs.Levels.{level, readAt}
+use Rattle.model.proofs.Packing.{first-fits}
 use Rattle.cells.proofs.Crossing.{below-of}
 use Rattle.packed.proofs.Words.{rank-le}
-use Rattle.reads.proofs.Parts.{level-stop, level-on, entry-take, first-fits}
+use Rattle.reads.proofs.Parts.{level-stop, level-on, entry-take}
 use Rattle.uppers.specs.Uppers.{rowsBy, levelsBy, readBy, Ahead}
 use Rattle.uppers.proofs.Uppers.{ahead-on, ahead-last}
 

@@ -5,22 +5,17 @@ use Prim.Native.Nat.{ℕ, zero, suc, _+_, _-_, _*_, _/_, _%_, _^_, _≤_, _<_, z
 use native.Mathlib.Nat.{le-refl, mod-lt, mul-zero, mul-suc, suc-mul, div-one, zero-add, add-comm, add-mul, div-lt-iff-lt-mul, mul-le-mul, not-suc-le-zero}
 use native.Mathlib.Numerals.{add-one, sub-one, one-add}
 use native.Mathlib.Omega.{arith}
-use lib.Dec.{T, leb, ltb, ltb→lt, lt→ltb}
+use lib.Dec.{leb, ltb, ltb→lt, lt→ltb}
 use lib.Pow.{pow-add, pow-mono, pow-pos, shr-shr}
 use borrow.Author.Tests.{le-leb, le-ltb}
 use Rattle.model.specs.Lists.{sum, every}
 use Rattle.model.specs.Packed.{unpack, entry, bit}
+use Rattle.model.proofs.Tools.{bool-eq}
 use Rattle.uppers.specs.declared.Judged.{Judged}
 use Rattle.uppers.specs.declared.Judged.the-variants.{Sound, Unsound}
 use Rattle.uppers.specs.Judge.{verdict, filled}
 
 -- ---- tests
-
-bool-eq : (a b : Bool) → (T a → T b) → (T b → T a) → a ≡ b
-bool-eq true true f g = refl
-bool-eq false false f g = refl
-bool-eq true false f g = absurd (f tt)
-bool-eq false true f g = absurd (g tt)
 
 every-same : (n : ℕ) (p q : ℕ → Bool) → ((i : ℕ) → p i ≡ q i) → every n p ≡ every n q
 every-same zero p q h = refl
