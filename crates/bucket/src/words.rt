@@ -1,6 +1,5 @@
 // A bucket taken out of the words of a wall, and stored there again.
 use super::Bucket;
-use growth::Upper;
 use shapes::Shape;
 ghost use mathlib.Core.Path.{_≡_};
 ghost use Prim.Native.Nat.{_+_, _≤_};
@@ -25,27 +24,25 @@ fn copy(to: &mut [u64], at: usize, from: &[u64], start: usize, n: usize)
 }
 
 impl Bucket {
-    // Who read the wall's header knows that the shape is valid and that the words of the bucket are there.
-    pub fn take(words: &[u64], at: usize, shape: Shape) -> Self
+    // Filled from the words at an offset, whatever it held. Who read the wall's header knows that the shape is valid and that the words are there.
+    pub fn take(mut self, words: &[u64], at: usize, shape: Shape) -> Self
         requires { ⌜ Valid shape × (at + bucketSize (shape .width) (rowsIn shape) ≤ length (now words)) ⌝ }
         ensures { λ r. ⌜ bucketOf shape r ≡ bucketIn shape (now (words .entry)) at ⌝ }
     {
         let width = shape.width as usize;
         let uppers = shape.uppers as usize;
-        let mut first = [0u64; 16];
+        let mut first = self.first;
         copy(&mut first[..], 0, words, at, width);
+        self.first = first;
         let next = at + width;
-        let mut cells = [0u64; 4];
+        self.marks = words[next];
+        let mut upper = self.upper;
+        let mut cells = upper.words;
         copy(&mut cells[..], 0, words, next + 1, uppers);
-        let upper = Upper {
-            words: cells,
-            packed: words[next + 1 + uppers],
-        };
-        Bucket {
-            first,
-            marks: words[next],
-            upper,
-        }
+        upper.words = cells;
+        upper.packed = words[next + 1 + uppers];
+        self.upper = upper;
+        self
     }
 
     // Its caller took it out at the same offset.

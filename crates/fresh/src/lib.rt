@@ -40,13 +40,13 @@ fn write(words: &mut [u64], v: Wall)
 pub fn raise(words: &mut [u64], shape: u64, width: u64, bits: u64, limit: u64, full: u64) -> Answer
     ensures { λ r. ⌜ outcomeOf r (now (words .exit)) ≡ model.raise shape width bits limit full (now (words .entry)) ⌝ }
 {
-    if !header::known_shape(shape) {
+    if !Wall::known_shape(shape) {
         return Answer::refused(1);
     }
     if Wall::MAX_WIDTH < width {
         return Answer::refused(2);
     }
-    if !slot::known_bits(bits) {
+    if !Wall::known_bits(bits) {
         return Answer::refused(3);
     }
     let v = Wall {

@@ -1,6 +1,6 @@
 -- A header is opened exactly where number 7 is not met.
 use mathlib.Core.Path.{_≡_, refl, sym, ap, ap₂, _∙_, subst}
-use mathlib.Core.Bool.{Bool, true, false, not, _&&_}
+use mathlib.Core.Bool.{Bool, true, false, not}
 use mathlib.Core.List.{List}
 use Prim.Native.Nat.{ℕ, zero, suc, _+_, _-_, _*_, _/_, _%_, _^_, _≤_, _<_}
 use native.Mathlib.Omega.{arith}
@@ -33,15 +33,6 @@ bool-eq false true f g = absurd (g tt)
 pub is-false : (b : Bool) → (T b → ⊥) → false ≡ b
 is-false true f = absurd (f tt)
 is-false false f = refl
-
--- two tests in turn: the first fails; it passes, and the second decides
-pub first-fails : (a b : Bool) → (T a → ⊥) → false ≡ a && b
-first-fails true b f = absurd (f tt)
-first-fails false b f = refl
-
-pub second-decides : (a b : Bool) → T a → b ≡ a && b
-second-decides true b t = refl
-second-decides false b t = absurd t
 
 -- ---- opened
 
@@ -130,11 +121,6 @@ module _ (ws : List ℕ) (v : Wall) (e : v ≡ fieldsOf ws) where
 pub width-test : (h : Header) → Limits h → T (validWidth (h .width))
 width-test h l = tests-and (leb 1 (h .width)) (leb (h .width) 16) (le→leb 1 (h .width) (l .width-low)) (le→leb (h .width) 16 (l .width-high))
 
--- a negated test that failed
-pub passed : (r t : Bool) → r ≡ t → not r ≡ false → T t
-passed true t e n = subst T e tt
-passed false t e n = absurd (subst T n tt)
-
 pub known-of : (v : Wall) → T (knownShape (v .shape)) → T (validWidth (v .width)) → T (knownBits (v .bits)) → Known v
 known-of v s w b =
     let x = shape-bounds (v .shape) s in
@@ -148,10 +134,6 @@ known-of v s w b =
       bits-low = leb→le 6 (v .bits) (z .0);
       bits-high = leb→le (v .bits) 22 (z .1);
     }
-
-pub failed : (r t : Bool) → r ≡ t → not r ≡ true → T (not t)
-failed true t e n = absurd (subst T (sym n) tt)
-failed false t e n = subst (λ b. T (not b)) e tt
 
 -- ---- an opened header
 

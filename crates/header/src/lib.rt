@@ -2,7 +2,6 @@ use layout::Wall;
 ghost use mathlib.Core.Path.{_≡_};
 ghost use Prim.Native.Nat.{_+_, _-_, _*_, _≤_, _<_, _^_};
 ghost use lib.ListN.{length};
-ghost use Rattle.model.specs.Shapes.{knownShape, validWidth};
 ghost use Rattle.model.specs.Walls.{bucketsIn, bucketLength, wallSize, limitFits, fullFits};
 ghost use Rattle.layout.specs.Views.{headerOf};
 ghost use Rattle.header.specs.Headers.{Known, Marked, fieldsOf, openedOf};
@@ -33,24 +32,6 @@ fn fields(words: &[u64]) -> Wall
         used: (full >> 16) % 65536,
         spare: full >> 32,
     }
-}
-
-pub fn known_shape(shape: u64) -> bool
-    ensures { λ r. ⌜ r ≡ knownShape shape ⌝ }
-{
-    if shape < 3 {
-        return false;
-    }
-    shape <= 5
-}
-
-fn valid_width(width: u64) -> bool
-    ensures { λ r. ⌜ r ≡ validWidth width ⌝ }
-{
-    if width < 1 {
-        return false;
-    }
-    width <= Wall::MAX_WIDTH
 }
 
 // What the rest asks of a header is shown by `open`, and by `raise` after its refusals 1, 2 and 3.
@@ -94,7 +75,7 @@ pub fn full_fits(v: Wall) -> bool
     if buckets(v) < v.full {
         return false;
     }
-    v.full <= Wall::MAX_FULL
+    Wall::known_full(v.full)
 }
 
 // Shape, width and bits are judged before anything is computed with them.
@@ -108,13 +89,13 @@ pub fn open(words: &[u64]) -> Opened
         return Opened::Bad;
     }
     let v = fields(words);
-    if !known_shape(v.shape) {
+    if !Wall::known_shape(v.shape) {
         return Opened::Bad;
     }
-    if !valid_width(v.width) {
+    if !Wall::valid_width(v.width) {
         return Opened::Bad;
     }
-    if !slot::known_bits(v.bits) {
+    if !Wall::known_bits(v.bits) {
         return Opened::Bad;
     }
     open_sized(words, v)

@@ -2,10 +2,12 @@ use answer::Answer;
 use bucket::Bucket;
 use growth::Upper;
 ghost use mathlib.Core.Path.{_≡_};
+ghost use lib.Dec.{leb};
 ghost use lib.ListN.{replicate};
 ghost use Rattle.answer.specs.Answers.{replyOf};
 ghost use Rattle.model.specs.Calls.{limitsCall};
-ghost use Rattle.model.specs.Shapes.{widthAsked};
+ghost use Rattle.model.specs.Shapes.{knownShape, validWidth, widthAsked};
+ghost use Rattle.model.specs.Slots.{knownBits};
 
 // A wall's header.
 pub struct Wall {
@@ -20,15 +22,57 @@ pub struct Wall {
 }
 
 impl Wall {
-    pub const DEFAULT_WIDTH: u64 = 7;
+    pub const MIN_SHAPE: u64 = 3;
+
+    pub const MAX_SHAPE: u64 = 5;
+
+    pub const MIN_WIDTH: u64 = 1;
 
     pub const MAX_WIDTH: u64 = 16;
+
+    // The width of a wall for which width 0 was asked.
+    pub const DEFAULT_WIDTH: u64 = 7;
 
     pub const MIN_BITS: u64 = 6;
 
     pub const MAX_BITS: u64 = 22;
 
     pub const MAX_FULL: u64 = 4096;
+
+    pub fn known_shape(shape: u64) -> bool
+        ensures { λ r. ⌜ r ≡ knownShape shape ⌝ }
+    {
+        if shape < Wall::MIN_SHAPE {
+            return false;
+        }
+        shape <= Wall::MAX_SHAPE
+    }
+
+    // Of a header's own width: 0, which asks for the default, is none.
+    pub fn valid_width(width: u64) -> bool
+        ensures { λ r. ⌜ r ≡ validWidth width ⌝ }
+    {
+        if width < Wall::MIN_WIDTH {
+            return false;
+        }
+        width <= Wall::MAX_WIDTH
+    }
+
+    pub fn known_bits(bits: u64) -> bool
+        ensures { λ r. ⌜ r ≡ knownBits bits ⌝ }
+    {
+        if bits < Wall::MIN_BITS {
+            return false;
+        }
+        bits <= Wall::MAX_BITS
+    }
+
+    // Of J, whatever the number of buckets.
+    pub fn known_full(full: u64) -> bool
+        ensures { λ r. ⌜ r ≡ leb full 4096 ⌝ }
+    {
+        full <= Wall::MAX_FULL
+    }
 
     pub fn empty_bucket() -> Bucket
         ensures { λ r. ⌜ r ≡ record { first = replicate 16 0; marks = 0; upper = record { words = replicate 4 0; packed = 0 } } ⌝ }
@@ -59,10 +103,7 @@ impl Wall {
 pub fn limits(shape: u64, width: u64) -> Answer
     ensures { λ r. ⌜ replyOf r ≡ limitsCall shape width ⌝ }
 {
-    if shape < 3 {
-        return Answer::refused(1);
-    }
-    if 5 < shape {
+    if !Wall::known_shape(shape) {
         return Answer::refused(1);
     }
     if Wall::MAX_WIDTH < width {

@@ -1,4 +1,4 @@
-use bucket::Bucket;
+use layout::Wall;
 use shapes::Shape;
 ghost use mathlib.Core.Path.{_≡_};
 ghost use Prim.Native.Nat.{_+_, _≤_};
@@ -19,7 +19,8 @@ fn step_part(words: &mut [u64], at: usize, shape: Shape, place: u64, value: u64)
 {
     let w = shape.width;
     let part = value % packed::pow2(w);
-    Bucket::take(words, at, shape)
+    Wall::empty_bucket()
+        .take(words, at, shape)
         .put(w, place, part)
         .store(words, at, shape);
 }
@@ -35,7 +36,8 @@ fn step_default(words: &mut [u64], at: usize, shape: Shape, place: u64, value: u
         entries: shape.entries,
         widths: shape.widths,
     };
-    Bucket::take(words, at, seven)
+    Wall::empty_bucket()
+        .take(words, at, seven)
         .put(7, place, value % 128)
         .store(words, at, seven);
 }

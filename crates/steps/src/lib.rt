@@ -1,5 +1,4 @@
 use answer::Answer;
-use bucket::Bucket;
 use layout::Wall;
 use shapes::Shape;
 ghost use mathlib.Core.Path.{_≡_};
@@ -29,7 +28,7 @@ fn step_carry(words: &mut [u64], v: Wall, i: u64, at: u64, count: u64, total: u6
 {
     let start = header::bucket_at(v, i);
     let shape = Shape::of(v.shape, v.width);
-    let bucket = Bucket::take(words, start, shape);
+    let bucket = Wall::empty_bucket().take(words, start, shape);
     if bucket.room(shape, at, count) {
         bucket.raise(shape, at, count).store(words, start, shape);
         put_totals(words, v, total, v.used);

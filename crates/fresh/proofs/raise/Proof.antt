@@ -7,7 +7,7 @@ use Rattle.model.specs.Slots.{knownBits}
 use Rattle.model.specs.Walls.{limitFits, fullFits, wallSize, fresh}
 use Rattle.model.specs.Calls.{asked}
 use Rattle.answer.proofs.Said.{said}
-use Rattle.header.proofs.Opening.{passed, failed}
+use Rattle.layout.proofs.Tests.{passed, failed}
 use Rattle.fresh.proofs.Starting.{known-at, at-asked, full-most, raise-0, raise-1, raise-2, raise-3, raise-4, raise-5, raise-6}
 use Rattle.fresh.proofs.raise.Statement.{statement}
 use Rattle.fresh.proofs.raise.Tie as tie

@@ -5,7 +5,7 @@ use Prim.Native.Nat.{_^_}
 use lib.Dec.{leb, ltb, leb→le, le→leb}
 use Rattle.model.specs.Walls.{countEnd}
 use Rattle.layout.specs.Views.{headerOf}
-use Rattle.header.proofs.Opening.{first-fails, second-decides}
+use Rattle.layout.proofs.Tests.{first-fails, second-decides}
 use Rattle.header.proofs.limit_fits.Statement.{statement}
 use Rattle.header.proofs.limit_fits.Tie as tie
 

@@ -4,7 +4,8 @@ use Rattle.model.specs.Shapes.{knownShape, validWidth}
 use Rattle.model.specs.Slots.{knownBits}
 use Rattle.model.specs.Walls.{Header}
 use Rattle.model.proofs.Headers.{shape-test, bits-test}
-use Rattle.header.proofs.Opening.{opened-bad, mark-of, marked, fails-test, width-test, passed, known-of}
+use Rattle.layout.proofs.Tests.{passed}
+use Rattle.header.proofs.Opening.{opened-bad, mark-of, marked, fails-test, width-test, known-of}
 use Rattle.header.proofs.open.Statement.{statement}
 use Rattle.header.proofs.open.Tie as tie
 

@@ -7,7 +7,8 @@ use mathlib.Core.Path.{_∙_}
 use Rattle.model.specs.Walls.{limitFits, fullFits}
 use Rattle.model.proofs.Headers.{limit-test, full-test}
 use Rattle.layout.specs.Views.{headerOf}
-use Rattle.header.proofs.Opening.{fails-test, fails-fact, fails-length, passes, passed}
+use Rattle.layout.proofs.Tests.{passed}
+use Rattle.header.proofs.Opening.{fails-test, fails-fact, fails-length, passes}
 use Rattle.header.proofs.open_sized.Statement.{statement}
 use Rattle.header.proofs.open_sized.Tie as tie
 

@@ -23,7 +23,7 @@ use Rattle.header.proofs.open.Reads as open-reads
 use Rattle.increment.proofs.one_more_flagged.Reads as one-more-flagged-reads
 use Rattle.increment.proofs.one_more_plain.Reads as one-more-plain-reads
 use Rattle.packed.proofs.pow2.Reads as pow2-reads
-use Rattle.slot.proofs.reversed.Reads as reversed-reads
+use Rattle.reversal.proofs.reversed.Reads as reversed-reads
 
 opens : (c : tie.After-known-told) → Open (c .before .before .before .before .before .before .args .words .now) (c .before .v .given .0 .0)
 opens c = is-open (c .before .before .before .before .before .before .args .words .now) (c .before .v .given .0 .0) (sym (c .before .v .given .1) ∙ c .before .before .before .«open» .ensures)
@@ -75,10 +75,9 @@ reversed-requires : tie.Need-reversed-requires
 reversed-requires c κs =
     let s = c .before .before .before .before .before .before .before .before in
     let ws = s .args .words .now in
-    let y = s .args .flow in
     let v = c .before .before .before .v .given .0 .0 in
     let o = opens (c .before .before) in
-    (omega (arith, open-known ws v o .bits-high), omega (arith, c .before .pow2 .ensures .0, c .if1 .left))
+    omega (arith, open-known ws v o .bits-high)
 
 packed-word-requires : tie.Need-packed-word-requires
 packed-word-requires c κs =

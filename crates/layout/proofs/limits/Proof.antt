@@ -1,71 +1,69 @@
 use borrow.Author.Needs.{needs}
 use mathlib.Core.Path.{_∙_}
 use native.Mathlib.Omega.{arith}
+use lib.Dec.{T}
+use Rattle.model.specs.Shapes.{knownShape}
+use Rattle.model.proofs.Headers.{shape-bounds}
 use Rattle.layout.proofs.Refused.{limits-one, limits-two, asked-bounds, asked-limits}
+use Rattle.layout.proofs.Tests.{passed, failed}
 use Rattle.layout.proofs.limits.Statement.{statement}
 use Rattle.layout.proofs.limits.Tie as tie
-use Rattle.layout.proofs.limits.Reads as reads
-use Rattle.layout.proofs.limits.Lts as lts
-use Rattle.answer.proofs.Answer.done.Reads as done-reads
-use Rattle.answer.proofs.Answer.refused.Reads as refused-reads
-use Rattle.layout.proofs.Wall.width_asked.Reads as width-asked-reads
-use Rattle.shapes.proofs.counter_bits.Reads as counter-bits-reads
 
--- src/lib.rt:189:9
+known : (c : tie.Else1) → T (knownShape (c .before .before .args .shape))
+known c = passed (c .before .known-shape .result) (knownShape (c .before .before .args .shape)) (c .before .known-shape .ensures) (c .if1 .left)
+
+known-shape-requires : tie.Need-known-shape-requires
+known-shape-requires c κs = search needs
+
 refused-requires : tie.Need-refused-requires
 refused-requires c κs = search needs
 
--- src/lib.rt:189:9
 returns : tie.Need-returns
-returns c = c .refused .ensures ∙ limits-one (c .before .before .args .shape) (c .before .before .args .width) (λ h k. omega arith)
+returns c =
+    let k = c .before .before in
+    let a = k .before .args in
+    c .refused .ensures ∙ limits-one (a .shape) (a .width) (failed (k .known-shape .result) (knownShape (a .shape)) (k .known-shape .ensures) (c .before .if1 .taken))
 
--- src/lib.rt:192:9
 refused-requires-2 : tie.Need-refused-requires-2
 refused-requires-2 c κs = search needs
 
--- src/lib.rt:192:9
 returns-2 : tie.Need-returns-2
-returns-2 c = c .refused2 .ensures ∙ limits-one (c .before .before .before .args .shape) (c .before .before .before .args .width) (λ h k. omega arith)
+returns-2 c =
+    let k = c .before .before in
+    let a = k .before .before .args in
+    c .refused2 .ensures ∙ limits-two (a .shape) (a .width) (known k) (search needs)
 
--- src/lib.rt:195:9
-refused-requires-3 : tie.Need-refused-requires-3
-refused-requires-3 c κs = search needs
-
--- src/lib.rt:195:9
-returns-3 : tie.Need-returns-3
-returns-3 c = let a = c .before .before .before .before .args in c .refused3 .ensures ∙ limits-two (a .shape) (a .width) (search needs) (search needs) (search needs)
-
--- src/lib.rt:197:9
 width-asked-requires : tie.Need-width-asked-requires
 width-asked-requires c κs = search needs
 
--- src/lib.rt:198:18
 counter-bits-requires : tie.Need-counter-bits-requires
 counter-bits-requires c κs =
-    let b = asked-bounds (c .before .before .before .before .args .width) (search needs) in
-    (search needs, search needs, omega (arith, b .1, c .width-asked .ensures))
+    let k = c .before .before in
+    let a = k .before .before .args in
+    let s = shape-bounds (a .shape) (known k) in
+    let b = asked-bounds (a .width) (search needs) in
+    (s .0, s .1, omega (arith, b .1, c .width-asked .ensures))
 
--- src/lib.rt:198:5
 done-requires : tie.Need-done-requires
 done-requires c κs = search needs
 
--- src/lib.rt:185:1
-returns-4 : tie.Need-returns-4
-returns-4 c =
-    let a = c .before .before .before .before .before .before .args in
-    c .done .ensures ∙ asked-limits (a .shape) (a .width) (c .before .before .width-asked .result) (c .before .counter-bits .result) (search needs) (search needs) (search needs) (c .before .before .width-asked .ensures) (c .before .counter-bits .ensures .0)
+returns-3 : tie.Need-returns-3
+returns-3 c =
+    let u = c .before .before in
+    let k = u .before .before in
+    let a = k .before .before .args in
+    c .done .ensures ∙ asked-limits (a .shape) (a .width) (known k) (u .width-asked .result) (c .before .counter-bits .result) (search needs) (u .width-asked .ensures) (c .before .counter-bits .ensures .0)
 
 pub limits-spec : {M : Type 1} → statement M
 limits-spec =
     tie.close
     (tie.spec
+    known-shape-requires
     refused-requires
     returns
     refused-requires-2
     returns-2
-    refused-requires-3
-    returns-3
     width-asked-requires
     counter-bits-requires
     done-requires
-    returns-4)
+    returns-3)

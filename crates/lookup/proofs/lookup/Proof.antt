@@ -84,10 +84,9 @@ reversed-requires : tie.Need-reversed-requires
 reversed-requires c κs =
     let s = c .before .before .before .before .before .before .before in
     let ws = s .args .words .now in
-    let y = s .args .flow in
     let v = c .before .before .before .v .given .0 .0 in
     let o = opens (c .before .before) in
-    (omega (arith, open-known ws v o .bits-high), omega (arith, c .before .pow2 .ensures .0, c .if1 .left))
+    omega (arith, open-known ws v o .bits-high)
 
 read-requires : tie.Need-read-requires
 read-requires c κs =

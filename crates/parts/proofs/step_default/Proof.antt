@@ -31,9 +31,12 @@ stored c = (below-of (2 ^ 64) (c .put .result .first) (λ i. each i .fits), sear
     each : (i : ℕ) → Fits w64 (getD (c .put .result .first) i 0)
     each i = search needs
 
+empty-bucket-requires : tie.Need-empty-bucket-requires
+empty-bucket-requires c κs = search needs
+
 take-requires : tie.Need-take-requires
 take-requires c κs =
-    let s = c .before .before in
+    let s = c .before .before .before in
     let r = asked-seven (s .args .shape) (s .pre .3) (s .args .words .now) (s .args .at) (s .args .place) (s .args .value) (s .pre .0, s .pre .1, s .pre .2) in
     (r .1 .fit .valid, r .0)
 
@@ -42,7 +45,7 @@ put-requires c κs = search needs
 
 store-requires : tie.Need-store-requires
 store-requires c κs =
-    let s = c .before .before .before .before .before in
+    let s = c .before .before .before .before .before .before in
     let r = asked-seven (s .args .shape) (s .pre .3) (s .args .words .now) (s .args .at) (s .args .place) (s .args .value) (s .pre .0, s .pre .1, s .pre .2) in
     (r .1 .fit .valid, r .0)
 
@@ -51,7 +54,7 @@ same-length c = search needs
 
 returns : tie.Need-returns
 returns c =
-    let s = c .before .before .before .before .before .before .before .before in
+    let s = c .before .before .before .before .before .before .before .before .before in
     let k = c .before .before .before .before .before .take in
     let p = c .before .before .before .before .put in
     let r = asked-seven (s .args .shape) (s .pre .3) (s .args .words .now) (s .args .at) (s .args .place) (s .args .value) (s .pre .0, s .pre .1, s .pre .2) in
@@ -62,4 +65,4 @@ returns c =
 
 pub step-default-spec : {M : Type 1} → statement M
 step-default-spec =
-    tie.close (tie.spec take-requires put-requires store-requires same-length returns)
+    tie.close (tie.spec empty-bucket-requires take-requires put-requires store-requires same-length returns)

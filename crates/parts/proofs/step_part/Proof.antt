@@ -35,14 +35,17 @@ pow2-requires c κs = omega (arith, facts (c .before .args .shape) (c .before .p
 rem-part : tie.Need-rem-part
 rem-part c = search needs
 
+empty-bucket-requires : tie.Need-empty-bucket-requires
+empty-bucket-requires c κs = search needs
+
 take-requires : tie.Need-take-requires
 take-requires c κs = search needs
 
 put-requires : tie.Need-put-requires
 put-requires c κs =
-    let s = c .before .before .before .before in
+    let s = c .before .before .before .before .before in
     let t = facts (s .args .shape) (s .pre .1 .fit .valid) .first in
-    (s .pre .1 .place, t .0, t .1, rw (c .before .before .pow2 .ensures .0) (mod-lt (s .args .value) (pow-pos (s .args .shape .width))))
+    (s .pre .1 .place, t .0, t .1, rw (c .before .before .before .pow2 .ensures .0) (mod-lt (s .args .value) (pow-pos (s .args .shape .width))))
 
 store-requires : tie.Need-store-requires
 store-requires c κs = search needs
@@ -52,14 +55,14 @@ same-length c = search needs
 
 returns : tie.Need-returns
 returns c =
-    let s = c .before .before .before .before .before .before .before .before .before in
+    let s = c .before .before .before .before .before .before .before .before .before .before in
     let k = c .before .before .before .before .before .take in
     let p = c .before .before .before .before .put in
     c .before .before .store .ensures
-    ∙ part-stored (s .args .shape) (s .args .words .now) (s .args .at) (s .args .place) (s .args .value) (s .args .value % c .before .before .before .before .before .before .before .pow2 .result) (k .result) (p .result)
-    (below (c .before .before .before .before .before)) (four (c .before .before .before .before .before)) (stored (c .before .before .before .before)) (k .ensures) (p .ensures) (ap (λ n. s .args .value % n) (c .before .before .before .before .before .before .before .pow2 .ensures .0)) (s .pre)
+    ∙ part-stored (s .args .shape) (s .args .words .now) (s .args .at) (s .args .place) (s .args .value) (s .args .value % c .before .before .before .before .before .before .before .before .pow2 .result) (k .result) (p .result)
+    (below (c .before .before .before .before .before)) (four (c .before .before .before .before .before)) (stored (c .before .before .before .before)) (k .ensures) (p .ensures) (ap (λ n. s .args .value % n) (c .before .before .before .before .before .before .before .before .pow2 .ensures .0)) (s .pre)
 
 pub step-part-spec : {M : Type 1} → statement M
 step-part-spec =
     tie.close
-    (tie.spec pow2-requires rem-part take-requires put-requires store-requires same-length returns)
+    (tie.spec pow2-requires rem-part empty-bucket-requires take-requires put-requires store-requires same-length returns)

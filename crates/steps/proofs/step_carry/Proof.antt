@@ -57,23 +57,11 @@ of-requires c κs =
     let k = open-known ws v (r .header) in
     (k .shape-low, k .shape-high)
 
+empty-bucket-requires : tie.Need-empty-bucket-requires
+empty-bucket-requires c κs = search needs
+
 take-requires : tie.Need-take-requires
 take-requires c κs =
-    let s = c .before .before .before .before in
-    let ws = s .args .words .now in
-    let v = s .args .v in
-    let i = s .args .i in
-    let a = s .args .at in
-    let n = s .args .count in
-    let r = s .pre .0 in
-    let z = c .before .of .result in
-    let es = c .before .of .ensures in
-    let at = c .before .before .bucket-at .result in
-    let q = c .before .before .bucket-at .ensures in
-    (shape-fits ws v i a n r z es .valid, inside ws v i a n r z es at q)
-
-room-requires : tie.Need-room-requires
-room-requires c κs =
     let s = c .before .before .before .before .before in
     let ws = s .args .words .now in
     let v = s .args .v in
@@ -85,43 +73,58 @@ room-requires c κs =
     let es = c .before .before .of .ensures in
     let at = c .before .before .before .bucket-at .result in
     let q = c .before .before .before .bucket-at .ensures in
+    (shape-fits ws v i a n r z es .valid, inside ws v i a n r z es at q)
+
+room-requires : tie.Need-room-requires
+room-requires c κs =
+    let s = c .before .before .before .before .before .before in
+    let ws = s .args .words .now in
+    let v = s .args .v in
+    let i = s .args .i in
+    let a = s .args .at in
+    let n = s .args .count in
+    let r = s .pre .0 in
+    let z = c .before .before .before .of .result in
+    let es = c .before .before .before .of .ensures in
+    let at = c .before .before .before .before .bucket-at .result in
+    let q = c .before .before .before .before .bucket-at .ensures in
     let k : bucketOf z (c .take .result) ≡ bucketAt (parse ws) i = c .take .ensures ∙ lies ws v i a n r z es at q in
     subst (λ (b : model.Bucket). RaisesIn z b a n) (sym k) (raises ws v i a n r z es (s .pre .1))
 
 raise-requires : tie.Need-raise-requires
 raise-requires c κs =
-    let s = c .before .before .before .before .before .before .before in
+    let s = c .before .before .before .before .before .before .before .before in
     let ws = s .args .words .now in
     let v = s .args .v in
     let i = s .args .i in
     let a = s .args .at in
     let n = s .args .count in
     let r = s .pre .0 in
-    let z = c .before .before .before .before .of .result in
-    let es = c .before .before .before .before .of .ensures in
-    let at = c .before .before .before .before .before .bucket-at .result in
-    let q = c .before .before .before .before .before .bucket-at .ensures in
+    let z = c .before .before .before .before .before .of .result in
+    let es = c .before .before .before .before .before .of .ensures in
+    let at = c .before .before .before .before .before .before .bucket-at .result in
+    let q = c .before .before .before .before .before .before .bucket-at .ensures in
     let k : bucketOf z (c .before .before .take .result) ≡ bucketAt (parse ws) i = c .before .before .take .ensures ∙ lies ws v i a n r z es at q in
     (subst (λ (b : model.Bucket). RaisesIn z b a n) (sym k) (raises ws v i a n r z es (s .pre .1)), subst T (c .before .room .ensures) (subst T (sym (c .if1 .taken)) tt))
 
 store-requires : tie.Need-store-requires
 store-requires c κs =
-    let s = c .before .before .before .before .before .before .before .before .before in
+    let s = c .before .before .before .before .before .before .before .before .before .before in
     let ws = s .args .words .now in
     let v = s .args .v in
     let i = s .args .i in
     let a = s .args .at in
     let n = s .args .count in
     let r = s .pre .0 in
-    let z = c .before .before .before .before .before .before .of .result in
-    let es = c .before .before .before .before .before .before .of .ensures in
-    let at = c .before .before .before .before .before .before .before .bucket-at .result in
-    let q = c .before .before .before .before .before .before .before .bucket-at .ensures in
+    let z = c .before .before .before .before .before .before .before .of .result in
+    let es = c .before .before .before .before .before .before .before .of .ensures in
+    let at = c .before .before .before .before .before .before .before .before .bucket-at .result in
+    let q = c .before .before .before .before .before .before .before .before .bucket-at .ensures in
     (shape-fits ws v i a n r z es .valid, inside ws v i a n r z es at q)
 
 put-totals-requires : tie.Need-put-totals-requires
 put-totals-requires c κs =
-    let s = c .before .before .before .before .before .before .before .before .before .before .before .before .before in
+    let s = c .before .before .before .before .before .before .before .before .before .before .before .before .before .before in
     let ws = s .args .words .now in
     let v = s .args .v in
     let i = s .args .i in
@@ -139,20 +142,20 @@ same-length c = search needs
 
 returns : tie.Need-returns
 returns c =
-    let s = c .before .before .before .before .before .before .before .before .before .before .before .before .before .before .before .before .before in
+    let s = c .before .before .before .before .before .before .before .before .before .before .before .before .before .before .before .before .before .before in
     let ws = s .args .words .now in
     let v = s .args .v in
     let i = s .args .i in
     let a = s .args .at in
     let n = s .args .count in
     let r = s .pre .0 in
-    let z = c .before .before .before .before .before .before .before .before .before .before .before .before .before .before .of .result in
-    let es = c .before .before .before .before .before .before .before .before .before .before .before .before .before .before .of .ensures in
-    let at = c .before .before .before .before .before .before .before .before .before .before .before .before .before .before .before .bucket-at .result in
-    let q = c .before .before .before .before .before .before .before .before .before .before .before .before .before .before .before .bucket-at .ensures in
+    let z = c .before .before .before .before .before .before .before .before .before .before .before .before .before .before .before .of .result in
+    let es = c .before .before .before .before .before .before .before .before .before .before .before .before .before .before .before .of .ensures in
+    let at = c .before .before .before .before .before .before .before .before .before .before .before .before .before .before .before .before .bucket-at .result in
+    let q = c .before .before .before .before .before .before .before .before .before .before .before .before .before .before .before .before .bucket-at .ensures in
     let k : bucketOf z (c .before .before .before .before .before .before .before .before .before .before .before .before .take .result) ≡ bucketAt (parse ws) i = c .before .before .before .before .before .before .before .before .before .before .before .before .take .ensures ∙ lies ws v i a n r z es at q in
     said (c .done .result) 0 n (c .before .before .before .put-totals .last .0) (c .done .ensures) ∙ ap (λ (x : List ℕ). record { number = 0; value = n; words = x }) (c .before .before .before .put-totals .ensures)
-    ∙ step-held ws v i a n r (s .args .total) (c .before .before .before .before .before .before .before .before .before .before .before .before .before .before .before .before .slice-known .given 0 .fits) (c .before .before .before .before .before .before .before .store .last .1 .0) at (bucketOf z (c .before .before .before .before .before .before .before .before .before .raise .result)) (s .pre .1) (room-found ws v i a n r z es (c .before .before .before .before .before .before .before .before .before .before .before .room .result) (c .before .before .before .before .before .before .before .before .before .before .before .room .ensures ∙ ap (λ (b : model.Bucket). not (crowded (z .width) (rowsIn z) (set (ownCounts (z .width) (rowsIn z) b) a n))) k) (c .before .before .before .before .before .before .before .before .before .before .if1 .taken)) q
+    ∙ step-held ws v i a n r (s .args .total) (c .before .before .before .before .before .before .before .before .before .before .before .before .before .before .before .before .before .slice-known .given 0 .fits) (c .before .before .before .before .before .before .before .store .last .1 .0) at (bucketOf z (c .before .before .before .before .before .before .before .before .before .raise .result)) (s .pre .1) (room-found ws v i a n r z es (c .before .before .before .before .before .before .before .before .before .before .before .room .result) (c .before .before .before .before .before .before .before .before .before .before .before .room .ensures ∙ ap (λ (b : model.Bucket). not (crowded (z .width) (rowsIn z) (set (ownCounts (z .width) (rowsIn z) b) a n))) k) (c .before .before .before .before .before .before .before .before .before .before .if1 .taken)) q
     (held-of ws v i a n r z es (bucketOf z (c .before .before .before .before .before .before .before .before .before .raise .result)) (c .before .before .before .before .before .before .before .before .before .raise .ensures ∙ ap (λ (b : model.Bucket). holding (z .width) (rowsIn z) (set (ownCounts (z .width) (rowsIn z) b) a n)) k)) (c .before .before .before .before .before .before .before .store .ensures)
 
 refused-requires : tie.Need-refused-requires
@@ -163,35 +166,6 @@ same-length-2 c = search needs
 
 returns-2 : tie.Need-returns-2
 returns-2 c =
-    let s = c .before .before .before .before .before .before .before .before .before .before in
-    let ws = s .args .words .now in
-    let v = s .args .v in
-    let i = s .args .i in
-    let a = s .args .at in
-    let n = s .args .count in
-    let r = s .pre .0 in
-    let z = c .before .before .before .before .before .before .before .of .result in
-    let es = c .before .before .before .before .before .before .before .of .ensures in
-    let at = c .before .before .before .before .before .before .before .before .bucket-at .result in
-    let q = c .before .before .before .before .before .before .before .before .bucket-at .ensures in
-    let k : bucketOf z (c .before .before .before .before .before .take .result) ≡ bucketAt (parse ws) i = c .before .before .before .before .before .take .ensures ∙ lies ws v i a n r z es at q in
-    said (c .refused .result) 12 0 ws (c .refused .ensures)
-    ∙ step-twelve ws v i a n r (s .args .total) (c .before .before .before .before .before .before .before .before .before .slice-known .given 0 .fits) (s .pre .1) (none-found ws v i a n r z es (c .before .before .before .before .room .result) (c .before .before .before .before .room .ensures ∙ ap (λ (b : model.Bucket). not (crowded (z .width) (rowsIn z) (set (ownCounts (z .width) (rowsIn z) b) a n))) k) (c .before .before .before .if1 .left)) (c .before .if2 .taken)
-
-overflow-requires : tie.Need-overflow-requires
-overflow-requires c κs =
-    let s = c .before .before .before .before .before .before .before .before .before in
-    let ws = s .args .words .now in
-    let v = s .args .v in
-    let i = s .args .i in
-    let a = s .args .at in
-    let n = s .args .count in
-    let r = s .pre .0 in
-    let l = open-limits ws v (r .header) in
-    omega (arith, l .full-most, l .spare-full)
-
-store-requires-2 : tie.Need-store-requires-2
-store-requires-2 c κs =
     let s = c .before .before .before .before .before .before .before .before .before .before .before in
     let ws = s .args .words .now in
     let v = s .args .v in
@@ -203,11 +177,40 @@ store-requires-2 c κs =
     let es = c .before .before .before .before .before .before .before .before .of .ensures in
     let at = c .before .before .before .before .before .before .before .before .before .bucket-at .result in
     let q = c .before .before .before .before .before .before .before .before .before .bucket-at .ensures in
+    let k : bucketOf z (c .before .before .before .before .before .take .result) ≡ bucketAt (parse ws) i = c .before .before .before .before .before .take .ensures ∙ lies ws v i a n r z es at q in
+    said (c .refused .result) 12 0 ws (c .refused .ensures)
+    ∙ step-twelve ws v i a n r (s .args .total) (c .before .before .before .before .before .before .before .before .before .before .slice-known .given 0 .fits) (s .pre .1) (none-found ws v i a n r z es (c .before .before .before .before .room .result) (c .before .before .before .before .room .ensures ∙ ap (λ (b : model.Bucket). not (crowded (z .width) (rowsIn z) (set (ownCounts (z .width) (rowsIn z) b) a n))) k) (c .before .before .before .if1 .left)) (c .before .if2 .taken)
+
+overflow-requires : tie.Need-overflow-requires
+overflow-requires c κs =
+    let s = c .before .before .before .before .before .before .before .before .before .before in
+    let ws = s .args .words .now in
+    let v = s .args .v in
+    let i = s .args .i in
+    let a = s .args .at in
+    let n = s .args .count in
+    let r = s .pre .0 in
+    let l = open-limits ws v (r .header) in
+    omega (arith, l .full-most, l .spare-full)
+
+store-requires-2 : tie.Need-store-requires-2
+store-requires-2 c κs =
+    let s = c .before .before .before .before .before .before .before .before .before .before .before .before in
+    let ws = s .args .words .now in
+    let v = s .args .v in
+    let i = s .args .i in
+    let a = s .args .at in
+    let n = s .args .count in
+    let r = s .pre .0 in
+    let z = c .before .before .before .before .before .before .before .before .before .of .result in
+    let es = c .before .before .before .before .before .before .before .before .before .of .ensures in
+    let at = c .before .before .before .before .before .before .before .before .before .before .bucket-at .result in
+    let q = c .before .before .before .before .before .before .before .before .before .before .bucket-at .ensures in
     (shape-fits ws v i a n r z es .valid, inside ws v i a n r z es at q)
 
 full-at-requires : tie.Need-full-at-requires
 full-at-requires c κs =
-    let s = c .before .before .before .before .before .before .before .before .before .before .before .before .before .before .before in
+    let s = c .before .before .before .before .before .before .before .before .before .before .before .before .before .before .before .before in
     let ws = s .args .words .now in
     let v = s .args .v in
     let i = s .args .i in
@@ -219,7 +222,7 @@ full-at-requires c κs =
 
 move-first-requires : tie.Need-move-first-requires
 move-first-requires c κs =
-    let s = c .before .before .before .before .before .before .before .before .before .before .before .before .before .before .before .before in
+    let s = c .before .before .before .before .before .before .before .before .before .before .before .before .before .before .before .before .before in
     let ws = s .args .words .now in
     let v = s .args .v in
     let i = s .args .i in
@@ -234,7 +237,7 @@ add-put-totals c = search needs
 
 put-totals-requires-2 : tie.Need-put-totals-requires-2
 put-totals-requires-2 c κs =
-    let s = c .before .before .before .before .before .before .before .before .before .before .before .before .before .before .before .before .before .before .before .before .before in
+    let s = c .before .before .before .before .before .before .before .before .before .before .before .before .before .before .before .before .before .before .before .before .before .before in
     let ws = s .args .words .now in
     let v = s .args .v in
     let i = s .args .i in
@@ -252,21 +255,21 @@ same-length-3 c = search needs
 
 returns-3 : tie.Need-returns-3
 returns-3 c =
-    let s = c .before .before .before .before .before .before .before .before .before .before .before .before .before .before .before .before .before .before .before .before .before .before .before .before .before in
+    let s = c .before .before .before .before .before .before .before .before .before .before .before .before .before .before .before .before .before .before .before .before .before .before .before .before .before .before in
     let ws = s .args .words .now in
     let v = s .args .v in
     let i = s .args .i in
     let a = s .args .at in
     let n = s .args .count in
     let r = s .pre .0 in
-    let z = c .before .before .before .before .before .before .before .before .before .before .before .before .before .before .before .before .before .before .before .before .before .before .of .result in
-    let es = c .before .before .before .before .before .before .before .before .before .before .before .before .before .before .before .before .before .before .before .before .before .before .of .ensures in
-    let at = c .before .before .before .before .before .before .before .before .before .before .before .before .before .before .before .before .before .before .before .before .before .before .before .bucket-at .result in
-    let q = c .before .before .before .before .before .before .before .before .before .before .before .before .before .before .before .before .before .before .before .before .before .before .before .bucket-at .ensures in
+    let z = c .before .before .before .before .before .before .before .before .before .before .before .before .before .before .before .before .before .before .before .before .before .before .before .of .result in
+    let es = c .before .before .before .before .before .before .before .before .before .before .before .before .before .before .before .before .before .before .before .before .before .before .before .of .ensures in
+    let at = c .before .before .before .before .before .before .before .before .before .before .before .before .before .before .before .before .before .before .before .before .before .before .before .before .bucket-at .result in
+    let q = c .before .before .before .before .before .before .before .before .before .before .before .before .before .before .before .before .before .before .before .before .before .before .before .before .bucket-at .ensures in
     let k : bucketOf z (c .before .before .before .before .before .before .before .before .before .before .before .before .before .before .before .before .before .before .before .before .take .result) ≡ bucketAt (parse ws) i = c .before .before .before .before .before .before .before .before .before .before .before .before .before .before .before .before .before .before .before .before .take .ensures ∙ lies ws v i a n r z es at q in
     let y = c .before .before .before .before .before .before .before .before .before .before .before .before .before .before .before .overflow in
     said (c .done2 .result) 0 n (c .before .before .before .put-totals2 .last .0) (c .done2 .ensures) ∙ ap (λ (x : List ℕ). record { number = 0; value = n; words = x }) (c .before .before .before .put-totals2 .ensures)
-    ∙ step-over ws v i a n r (s .args .total) (c .before .before .before .before .before .before .before .before .before .before .before .before .before .before .before .before .before .before .before .before .before .before .before .before .slice-known .given 0 .fits) (c .before .before .before .before .before .before .before .before .before .before .before .before .before .store2 .last .1 .0) (c .before .before .before .before .before .before .before .before .move-first .last .0) at (c .before .before .before .before .before .before .before .before .before .full-at .result) (bucketOf z (y .result)) (s .pre .1) (none-found ws v i a n r z es (c .before .before .before .before .before .before .before .before .before .before .before .before .before .before .before .before .before .before .before .room .result) (c .before .before .before .before .before .before .before .before .before .before .before .before .before .before .before .before .before .before .before .room .ensures ∙ ap (λ (b : model.Bucket). not (crowded (z .width) (rowsIn z) (set (ownCounts (z .width) (rowsIn z) b) a n))) k) (c .before .before .before .before .before .before .before .before .before .before .before .before .before .before .before .before .before .before .if1 .left)) (c .before .before .before .before .before .before .before .before .before .before .before .before .before .before .before .before .if2 .left) q
+    ∙ step-over ws v i a n r (s .args .total) (c .before .before .before .before .before .before .before .before .before .before .before .before .before .before .before .before .before .before .before .before .before .before .before .before .before .slice-known .given 0 .fits) (c .before .before .before .before .before .before .before .before .before .before .before .before .before .store2 .last .1 .0) (c .before .before .before .before .before .before .before .before .move-first .last .0) at (c .before .before .before .before .before .before .before .before .before .full-at .result) (bucketOf z (y .result)) (s .pre .1) (none-found ws v i a n r z es (c .before .before .before .before .before .before .before .before .before .before .before .before .before .before .before .before .before .before .before .room .result) (c .before .before .before .before .before .before .before .before .before .before .before .before .before .before .before .before .before .before .before .room .ensures ∙ ap (λ (b : model.Bucket). not (crowded (z .width) (rowsIn z) (set (ownCounts (z .width) (rowsIn z) b) a n))) k) (c .before .before .before .before .before .before .before .before .before .before .before .before .before .before .before .before .before .before .if1 .left)) (c .before .before .before .before .before .before .before .before .before .before .before .before .before .before .before .before .if2 .left) q
     (over-of ws v i a n r z es (c .before .before .before .before .before .before .before .before .before .before .before .before .before .before .before .before .before .before .before .before .take .result) (y .result) (v .used) k (y .ensures .0) (y .ensures .1) (y .ensures .2) (y .ensures .3)) (c .before .before .before .before .before .before .before .before .before .before .before .before .before .store2 .ensures) (c .before .before .before .before .before .before .before .before .before .full-at .ensures) (c .before .before .before .before .before .before .before .before .move-first .ensures)
 
 pub step-carry-spec : {M : Type 1} → statement M
@@ -275,6 +278,7 @@ step-carry-spec =
     (tie.spec
     bucket-at-requires
     of-requires
+    empty-bucket-requires
     take-requires
     room-requires
     raise-requires

@@ -1,5 +1,6 @@
 use Rattle.bucket.proofs.BucketWords.{Room, room, taken}
-use lib.ListN.{length, replicate}
+use lib.ListN.{length}
+use mathlib.Core.Path.{_≡_}
 use native.Mathlib.Omega.{arith}
 use borrow.Author.Needs.{needs}
 use Rattle.bucket.proofs.Bucket.take.Statement.{statement}
@@ -11,14 +12,26 @@ use Rattle.bucket.proofs.words.copy.Reads as copy-reads
 has : (c : tie.Start) → Room (c .args .shape) (c .args .at) (length (c .args .words .now))
 has c = room (c .args .shape) (c .args .at) (length (c .args .words .now)) (c .pre .0) (c .pre .1)
 
+sixteen : (c : tie.Start) → length (c .args .self .first) ≡ 16
+sixteen c = search needs
+
+four : (c : tie.Start) → length (c .args .self .upper .words) ≡ 4
+four c = search needs
+
 slice-aggregate-copy : tie.Need-slice-aggregate-copy
 slice-aggregate-copy c = search needs
 
 copy-requires : tie.Need-copy-requires
-copy-requires c κs = let r = has (c .before .before) in (omega (arith, r .first), omega (arith, r .inside))
+copy-requires c κs = let s = c .before .before .before in let r = has s in (omega (arith, r .first, sixteen s), omega (arith, r .inside))
 
 add-next : tie.Need-add-next
 add-next c = search needs
+
+mul-self : tie.Need-mul-self
+mul-self c = search needs
+
+shared-slice-read-self : tie.Need-shared-slice-read-self
+shared-slice-read-self c = search needs
 
 slice-aggregate-copy-2 : tie.Need-slice-aggregate-copy-2
 slice-aggregate-copy-2 c = search needs
@@ -27,31 +40,25 @@ add-copy : tie.Need-add-copy
 add-copy c = search needs
 
 copy-requires-2 : tie.Need-copy-requires-2
-copy-requires-2 c κs = let r = has (c .before .before .before .before .before) in (omega (arith, r .upper), omega (arith, r .inside))
+copy-requires-2 c κs = let s = c .before .before .before .before .before .before .before .before .before in let r = has s in (omega (arith, r .upper, four s), omega (arith, r .inside))
 
-add-t15 : tie.Need-add-t15
-add-t15 c = search needs
+add-upper : tie.Need-add-upper
+add-upper c = search needs
 
-add-t17 : tie.Need-add-t17
-add-t17 c = omega (arith, has (c .before .before .before .before .before .before .before) .inside)
+add-upper-2 : tie.Need-add-upper-2
+add-upper-2 c = omega (arith, has (c .before .before .before .before .before .before .before .before .before .before .before) .inside)
 
-mul-t18 : tie.Need-mul-t18
-mul-t18 c = omega (arith, has (c .before .before .before .before .before .before .before) .inside)
+mul-upper : tie.Need-mul-upper
+mul-upper c = omega (arith, has (c .before .before .before .before .before .before .before .before .before .before .before) .inside)
 
-shared-slice-read-t20 : tie.Need-shared-slice-read-t20
-shared-slice-read-t20 c = omega (arith, has (c .before .before .before .before .before .before .before .before) .inside)
-
-mul-t15 : tie.Need-mul-t15
-mul-t15 c = search needs
-
-shared-slice-read-t20-2 : tie.Need-shared-slice-read-t20-2
-shared-slice-read-t20-2 c = search needs
+shared-slice-read-upper : tie.Need-shared-slice-read-upper
+shared-slice-read-upper c = omega (arith, has (c .before .before .before .before .before .before .before .before .before .before .before .before) .inside)
 
 returns : tie.Need-returns
 returns c =
-    let p = c .before .before .before .before .before .before .before .before .before in
+    let p = c .before .before .before .before .before .before .before .before .before .before .before .before in
     let a = p .args in
-    taken (a .shape) (a .words .now) (a .at) (c .before .before .before .before .before .before .copy .last .0) (c .before .before .before .copy2 .last .0) (replicate 16 0) (replicate 4 0) (has p) (c .before .before .before .before .before .before .copy .ensures) (c .before .before .before .copy2 .ensures)
+    taken (a .shape) (a .words .now) (a .at) (c .before .before .before .before .before .before .before .before .copy .last .0) (c .before .before .copy2 .last .0) (a .self .first) (a .self .upper .words) (has p) (c .before .before .before .before .before .before .before .before .copy .ensures) (c .before .before .copy2 .ensures)
 
 pub take-spec : {M : Type 1} → statement M
 take-spec =
@@ -60,13 +67,13 @@ take-spec =
     slice-aggregate-copy
     copy-requires
     add-next
+    mul-self
+    shared-slice-read-self
     slice-aggregate-copy-2
     add-copy
     copy-requires-2
-    add-t15
-    add-t17
-    mul-t18
-    shared-slice-read-t20
-    mul-t15
-    shared-slice-read-t20-2
+    add-upper
+    add-upper-2
+    mul-upper
+    shared-slice-read-upper
     returns)

@@ -3,9 +3,9 @@ use mathlib.Core.Path.{refl, ap, _∙_}
 use Prim.Native.Nat.{ℕ, _-_, _/_, _%_, _^_}
 use Rattle.model.specs.Slots.{slot}
 use Rattle.model.proofs.Slots.{slot-lt}
-use Rattle.slot.proofs.Bytes.{slot-parts}
-use Rattle.slot.proofs.reversed.Statement.{statement}
-use Rattle.slot.proofs.reversed.Tie as tie
+use Rattle.reversal.proofs.Bytes.{slot-parts}
+use Rattle.reversal.proofs.reversed.Statement.{statement}
+use Rattle.reversal.proofs.reversed.Tie as tie
 
 reversed-bytes-requires : tie.Need-reversed-bytes-requires
 reversed-bytes-requires c κs = search needs
@@ -21,7 +21,7 @@ returns c =
     let a = c .before .args in
     let y = a .flow in
     let e = ap (λ (n : ℕ). n / 2 ^ (24 - a .bits)) (c .reversed-bytes .ensures)
-    ∙ slot-parts 8 (a .bits) y (slot 8 (y % 256)) (slot 8 (y / 256 % 256)) (slot 8 (y / 65536 % 256)) refl refl refl (c .before .pre .0) (c .before .pre .1) in
+    ∙ slot-parts 8 (a .bits) y (slot 8 (y % 256)) (slot 8 (y / 256 % 256)) (slot 8 (y / 65536 % 256)) refl refl refl (c .before .pre) in
     (e, rw e (slot-lt (a .bits) y))
 
 pub reversed-spec : {M : Type 1} → statement M
