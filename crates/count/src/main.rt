@@ -1,8 +1,10 @@
+use libc::STDIN_FILENO;
 use libc::STDOUT_FILENO;
 ghost use mathlib.Core.Path.{_≡_};
 ghost use mathlib.Core.List.{_++_};
 ghost use Prim.Native.Nat.{_≤_};
 ghost use lib.ListN.{length, drop};
+ghost use Rattle.libc.specs.Io.{Moved};
 ghost use Rattle.io.specs.Counts.{Counts};
 ghost use Rattle.count.specs.Program.{program};
 
@@ -16,11 +18,37 @@ fn respond(input: &[u8], out: &mut [u8]) -> usize
     lines::lines(input, &mut words, out)
 }
 
-// One byte more than the longest input is read, to know one that is longer.
+// Reads until the buffer is full or the input ends: how many bytes, or -1 where a read failed.
+fn read_whole(buf: &mut [u8]) -> isize
+    ensures { λ r. ⌜ Moved (length (now (buf .entry))) r ⌝ }
+{
+    let mut done = 0;
+    while done < buf.len() {
+        let got = libc::read(STDIN_FILENO, &mut buf[done..]);
+        if got < 0 {
+            return -1;
+        }
+        let n = io::count(got, &buf[done..]);
+        if n == 0 {
+            return done as isize;
+        }
+        done += n;
+    }
+    done as isize
+}
+
+// One byte more than the longest input is read, to know one that is longer. A failed read or write is said on standard error.
 fn main() {
     let mut input = [0u8; 65537];
-    let n = io::read_full(0, &mut input);
+    let got = read_whole(&mut input);
+    if got < 0 {
+        os::fail(b"count: read");
+        return;
+    }
+    let n = io::count(got, &input);
     let mut out = [0u8; 262208];
     let written = respond(&input[..n], &mut out);
-    io::write_all(STDOUT_FILENO, &out[..written]);
+    if !io::write_all(STDOUT_FILENO, &out[..written]) {
+        os::fail(b"count: write");
+    }
 }

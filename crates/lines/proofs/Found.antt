@@ -1,69 +1,42 @@
 -- Lines in what is left of the input, and the number in a line.
-use mathlib.Core.Path.{_≡_, refl, sym, ap, _∙_}
+use mathlib.Core.Path.{_≡_, refl, ap, _∙_}
 use mathlib.Core.Bool.{Bool, true, false}
-use mathlib.Core.List.{List, [], _∷_, _++_, map, append-nil, append-assoc}
-use Prim.Native.Nat.{ℕ, _+_, _-_, _*_, _^_, _≤_, _<_}
-use native.Mathlib.Nat.{pow-suc, pow-le-pow-right, zero-lt-suc}
+use mathlib.Core.List.{List, [], _∷_, map}
+use Prim.Native.Nat.{ℕ, suc, _+_, _-_, _*_, _^_, _≤_, _<_}
+use native.Mathlib.Nat.{pow-suc, pow-le-pow-right, zero-lt-suc, zero-add, le-refl}
 use native.Mathlib.Numerals.{add-one}
 use native.Mathlib.Omega.{arith}
-use borrow.Author.Tests.{ne-eqb, le-leb, lt-leb}
+use borrow.Author.Tests.{le-leb, lt-leb}
 use lib.Dec.{eqb}
-use lib.ListN.{length, getD, take, drop, drop-of-length-le}
-use lib.Seq.{drop-cons, drop-length, take-suc}
+use lib.ListN.{length, getD, take, drop}
+use lib.Seq.{drop-cons, drop-length, take-all}
 use Rattle.model.specs.Lists.{choose, all}
+use Rattle.bytes.specs.Bytes.{indexOf, indexAfter, slice}
 use Rattle.lines.specs.declared.read.Flow.the-variants.{Number, Bad}
 use Rattle.lines.specs.Transcript.{linesOf, inFront, isDigit, isFlow, valueAfter, valueOf, flowOf}
-use Rattle.lines.specs.Reading.{firstLine, afterLine, Ends}
 
 -- ---- the first line
 
--- b says whether c is a newline
-by-newline : (c : ℕ) (s : List ℕ) (b : Bool) → inFront c (linesOf s) ≡ (c ∷ firstLine s) ∷ linesOf (afterLine s) → choose b ([] ∷ linesOf s) (inFront c (linesOf s)) ≡ choose b [] (c ∷ firstLine s) ∷ linesOf (choose b s (afterLine s))
-by-newline c s true e = refl
-by-newline c s false e = e
+-- b says whether c is a newline, and k where the first newline of s stands
+by-newline : (c : ℕ) (s : List ℕ) (k : ℕ) (b : Bool) → inFront c (linesOf s) ≡ (c ∷ take k s) ∷ linesOf (drop (suc k) s) → choose b ([] ∷ linesOf s) (inFront c (linesOf s)) ≡ take (indexAfter b k) (c ∷ s) ∷ linesOf (drop (suc (indexAfter b k)) (c ∷ s))
+unfolding indexAfter
+by-newline c s k true e = refl
+by-newline c s k false e = e
 
-in-front : (c : ℕ) (s : List ℕ) → inFront c (linesOf s) ≡ (c ∷ firstLine s) ∷ linesOf (afterLine s)
-unfolding linesOf firstLine afterLine
+in-front : (c : ℕ) (s : List ℕ) → inFront c (linesOf s) ≡ (c ∷ take (indexOf 10 s) s) ∷ linesOf (drop (suc (indexOf 10 s)) s)
+unfolding linesOf indexOf
 in-front c [] = refl
-in-front c (d ∷ s) = ap (inFront c) (by-newline d s (eqb d 10) (in-front d s))
+in-front c (d ∷ s) = ap (inFront c) (by-newline d s (indexOf 10 s) (eqb d 10) (in-front d s))
 
-pub lines-first : (c : ℕ) (s : List ℕ) → linesOf (c ∷ s) ≡ firstLine (c ∷ s) ∷ linesOf (afterLine (c ∷ s))
-unfolding linesOf firstLine afterLine
-lines-first c s = by-newline c s (eqb c 10) (in-front c s)
+pub lines-cut : (s : List ℕ) → 0 < length s → linesOf s ≡ take (indexOf 10 s) s ∷ linesOf (drop (indexOf 10 s + 1) s)
+unfolding linesOf indexOf
+lines-cut [] h = absurd (omega arith)
+lines-cut (c ∷ s) h = rw (add-one (indexOf 10 (c ∷ s))) (by-newline c s (indexOf 10 s) (eqb c 10) (in-front c s))
 
--- no newline among the first n bytes
-pub record Passed (s : List ℕ) (n : ℕ) : Type 0 where
-  pub within : n ≤ length s
-  pub line : firstLine s ≡ take n s ++ firstLine (drop n s)
-  pub rest : afterLine s ≡ afterLine (drop n s)
-
-pub passed-none : (s : List ℕ) → Passed s 0
-passed-none s = record { within = omega arith; line = refl; rest = refl }
-
-module _ (s : List ℕ) (n : ℕ) (p : Passed s n) where
-  pub stops : n < length s → getD s n 0 ≡ 10 → Ends s n
-  unfolding firstLine afterLine
-  stops h e = record {
-    within = p .within;
-    line = sym (p .line ∙ rw (drop-cons s n 0 h, e, append-nil));
-    rest = sym (p .rest ∙ rw (drop-cons s n 0 h, e, add-one n));
-  }
-
-  pub ends : n ≡ length s → Ends s n
-  unfolding firstLine afterLine
-  ends e = record {
-    within = p .within;
-    line = sym (p .line ∙ rw (drop-of-length-le s {i = n} (omega arith), append-nil));
-    rest = rw (drop-of-length-le s {i = n + 1} (omega arith)) (sym (p .rest ∙ rw (drop-of-length-le s {i = n} (omega arith))));
-  }
-
-  pub passes : n < length s → (getD s n 0 ≡ 10 → ⊥) → Passed s (n + 1)
-  unfolding firstLine afterLine
-  passes h e = record {
-    within = omega arith;
-    line = p .line ∙ rw (add-one n, drop-cons s n 0 h, ne-eqb (getD s n 0) 10 e, take-suc s n 0 h, append-assoc);
-    rest = p .rest ∙ rw (add-one n, drop-cons s n 0 h, ne-eqb (getD s n 0) 10 e);
-  }
+-- the first newline found in all of s
+pub found : (s : List ℕ) (n : ℕ) → n ≡ 0 + indexOf 10 (slice 0 (length s) s) → n ≡ indexOf 10 s
+unfolding slice
+found s n e = e ∙ rw (zero-add (indexOf 10 (take (length s) s)), take-all (length s) s (le-refl (length s)))
 
 -- ---- the number in a line
 

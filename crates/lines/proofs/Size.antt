@@ -12,7 +12,7 @@ use lib.ListN.{length, length-append}
 use Rattle.model.specs.Lists.{choose, all}
 use Rattle.model.specs.Walls.{readHeader, wordAt}
 use Rattle.model.specs.Calls.{Outcome, increment}
-use Rattle.texts.specs.Texts.{digits, answerLine, badLine}
+use Rattle.texts.specs.Texts.{decimal, answerLine, badLine}
 use Rattle.texts.proofs.Lengths.{few-digits, total-short, bad-short, answer-long}
 use Rattle.lines.specs.Transcript.{inFront, linesOf, isDigit, isFlow, valueAfter, valueOf, answers, badInput, tooLong, transcript}
 use Rattle.lines.proofs.Kept.{Small, number-small, done-counted, refused-same}
@@ -34,7 +34,7 @@ value-small (c ∷ l) v i d h =
 -- a flow is no longer without its leading zeros
 pub record FlowLine (l : List ℕ) : Type 0 where
   pub long : 1 ≤ length l
-  pub short : length (digits (valueOf l)) ≤ length l
+  pub short : length (decimal (valueOf l)) ≤ length l
 
 flow-line : (l : List ℕ) → isFlow l ≡ true → FlowLine l
 unfolding isFlow valueOf
@@ -74,7 +74,7 @@ module _ (ws : List ℕ) (y : ℕ) (s : Small 999 ws) where
   r = increment ws y
 
   pub record Short : Type 0 where
-    pub digits-most : length (digits (r .number)) + length (digits (r .value)) ≤ 4
+    pub digits-most : length (decimal (r .number)) + length (decimal (r .value)) ≤ 4
     pub small : Small 999 (r .words)
 
   answer-short : Short

@@ -1,5 +1,5 @@
 -- The input answered line by line: what is said so far, and what a line adds.
-use mathlib.Core.Path.{_≡_, refl, sym, ap, ap₂, _∙_}
+use mathlib.Core.Path.{_≡_, refl, sym, ap, _∙_}
 use mathlib.Core.Bool.{Bool, true, false}
 use mathlib.Core.List.{List, [], _∷_, _++_, append-assoc}
 use Prim.Native.Nat.{ℕ, _+_, _-_, _≤_, _<_}
@@ -11,6 +11,7 @@ use lib.Seq.{drop-drop, take-all}
 use Rattle.model.specs.Lists.{choose}
 use Rattle.model.specs.Walls.{readHeader}
 use Rattle.model.specs.Calls.{increment}
+use Rattle.bytes.specs.Bytes.{indexOf}
 use Rattle.answer.specs.declared.Answer.{Answer}
 use Rattle.answer.specs.Answers.{outcomeOf}
 use Rattle.texts.specs.Texts.{answerLine, totalLine, badLine}
@@ -18,14 +19,9 @@ use Rattle.texts.specs.Writing.{Room, Wrote}
 use Rattle.texts.proofs.Texts.{room-first, room-next, and-then}
 use Rattle.lines.specs.declared.read.Flow.the-variants.{Number, Bad}
 use Rattle.lines.specs.Transcript.{linesOf, isFlow, valueOf, flowOf, answers, wordsOf, badInput, transcript, wordsAfter}
-use Rattle.lines.specs.Reading.{firstLine, afterLine, Ends}
-use Rattle.lines.proofs.Found.{lines-first}
+use Rattle.lines.proofs.Found.{lines-cut}
 
 -- ---- one line
-
-lines-split : (s : List ℕ) → 0 < length s → linesOf s ≡ firstLine s ∷ linesOf (afterLine s)
-lines-split [] h = absurd (omega arith)
-lines-split (c ∷ s) h = lines-first c s
 
 -- a flow, or none
 none : (b : Bool) (v : ℕ) → Bad ≡ choose b (Number v) Bad → b ≡ false
@@ -36,9 +32,9 @@ some : (b : Bool) (v y : ℕ) → Number y ≡ choose b (Number v) Bad → (b �
 some true v y e = (refl, cc)
 some false v y e = let z : _≡_ {A = ℕ} 0 1 = cc in absurd (omega arith)
 
-module _ (s : List ℕ) (n : ℕ) (h : 0 < length s) (e : Ends s n) (line : ℕ) (ws : List ℕ) where
+module _ (s : List ℕ) (n : ℕ) (h : 0 < length s) (e : n ≡ indexOf 10 s) (line : ℕ) (ws : List ℕ) where
   cut : linesOf s ≡ take n s ∷ linesOf (drop (n + 1) s)
-  cut = lines-split s h ∙ ap₂ (λ l r. l ∷ linesOf r) (sym (e .line)) (sym (e .rest))
+  cut = rw e (lines-cut s h)
 
   answers-bad : Bad ≡ flowOf (take n s) → answers line (linesOf s) ws ≡ badLine line
   unfolding answers
@@ -100,12 +96,9 @@ module _ (input ws₀ out₀ ws out : List ℕ) (at line end : ℕ) (d : Done in
 
   -- ---- a line of n bytes
 
-  module _ (h : at < length input) (n : ℕ) (e : Ends (drop at input) n) where
+  module _ (h : at < length input) (n : ℕ) (e : n ≡ indexOf 10 (drop at input)) where
     some-left : 0 < length (drop at input)
     some-left = simp length-drop (omega arith)
-
-    pub next-in : at + n ≤ length input
-    next-in = omega (arith, e .within, length-drop at input)
 
     module _ (f : Bad ≡ flowOf (take n (drop at input))) where
       bad : answers line (linesOf (drop at input)) ws ≡ badLine line

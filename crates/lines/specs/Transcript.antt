@@ -7,7 +7,7 @@ use lib.ListN.{length}
 use Rattle.model.specs.Lists.{choose, all}
 use Rattle.model.specs.Walls.{readHeader}
 use Rattle.model.specs.Calls.{Outcome, increment}
-use Rattle.texts.specs.Texts.{newline, answerLine, totalLine, badLine}
+use Rattle.texts.specs.Texts.{bytesOf, answerLine, totalLine, badLine}
 use Rattle.lines.specs.declared.read.Flow.{Flow}
 use Rattle.lines.specs.declared.read.Flow.the-variants.{Number, Bad}
 
@@ -44,9 +44,8 @@ flowOf l = choose (isFlow l) (Number (valueOf l)) Bad
 
 -- ---- the whole
 
--- `bad input`
 abbrev pub badInput : List ℕ
-badInput = 98 ∷ 97 ∷ 100 ∷ 32 ∷ 105 ∷ 110 ∷ 112 ∷ 117 ∷ 116 ∷ newline
+badInput = bytesOf "bad input\n"
 
 -- the lines from line n on: each flow is incremented in turn, up to the first line that is none
 unfoldable pub answers : ℕ → List (List ℕ) → List ℕ → List ℕ

@@ -22,7 +22,7 @@ fn each_line(input: &[u8], words: &mut [u64], out: &mut [u8]) -> usize
     let mut end = 0;
     while at < input.len() {
         let rest = &input[at..];
-        let n = read::line_length(rest);
+        let n = bytes::scan::find(rest, 0, rest.len(), b'\n');
         let Flow::Number(flow) = read::flow_in(&rest[..n]) else {
             return texts::bad_line(out, end, line);
         };

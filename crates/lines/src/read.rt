@@ -1,24 +1,9 @@
 ghost use mathlib.Core.Path.{_≡_};
 ghost use Rattle.lines.specs.Transcript.{flowOf};
-ghost use Rattle.lines.specs.Reading.{Ends};
 
 pub enum Flow {
     Number(u64),
     Bad,
-}
-
-// How many bytes stand before the first newline.
-pub fn line_length(rest: &[u8]) -> usize
-    ensures { λ r. ⌜ Ends (now (rest .entry)) r ⌝ }
-{
-    let mut n = 0;
-    while n < rest.len() {
-        if rest[n] == b'\n' {
-            return n;
-        }
-        n += 1;
-    }
-    n
 }
 
 // The flow number in a line, which is 1 to 7 digits.

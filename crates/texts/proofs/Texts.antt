@@ -1,12 +1,19 @@
 -- Texts written one after another, where there is room for all of them.
 use mathlib.Core.Path.{_≡_, ap₂, _∙_}
-use mathlib.Core.List.{List, _++_}
-use Prim.Native.Nat.{ℕ}
+use mathlib.Core.List.{List, _++_, append-nil}
+use Prim.Native.Nat.{ℕ, _-_, _≤_}
 use native.Mathlib.Omega.{arith}
-use lib.ListN.{length, length-append}
+use lib.ListN.{length, take, drop, length-append, length-drop, drop-of-length-le}
+use lib.Seq.{take-all, take-length, drop-drop}
 use Rattle.model.specs.Lists.{splice}
 use Rattle.model.proofs.Splices.{splice-on, length-splice}
 use Rattle.texts.specs.Writing.{Room, Wrote}
+
+-- a text copied over the bytes x from a place on
+pub copied : (o : List ℕ) (at : ℕ) (s : List ℕ) {x : List ℕ} → x ≡ take (length s) s ++ drop (length s) (take (length o - at) (drop at o)) → take at o ++ (x ++ drop (length o - at) (drop at o)) ≡ splice o at s
+copied o at s e =
+    let h : length (drop at o) ≤ length o - at = simp length-drop (omega arith) in
+    rw (e, take-length s, take-all (length o - at) (drop at o) h, drop-of-length-le (drop at o) h, append-nil, drop-drop (length s) at o)
 
 pub same-length : {o s p : List ℕ} {at n : ℕ} → Room o at s → Wrote o at s p n → length p ≡ length o
 same-length {o} {s} {at = at} h w = rw (w .bytes) (length-splice o at s h)

@@ -1,47 +1,54 @@
 -- Numbers in decimal and the lines of the output, as bytes.
 use mathlib.Core.List.{List, [], _∷_, _++_}
-use Prim.Native.Nat.{ℕ, zero, suc, _+_, _/_, _%_}
+use Prim.Native.Nat.{ℕ, zero, suc, _^_}
+use Prim.Native.Char.{code}
+use Prim.Native.String.{String, [] as none, _∷_ as _before_}
 use lib.Dec.{ltb}
+use Rattle.io.specs.Digits.{digits}
 use Rattle.model.specs.Lists.{choose}
 
--- ---- bytes: a space, a newline, and the digit d
+-- ---- bytes
+
+-- the bytes of a text, each of whose characters is one byte
+abbrev pub bytesOf : String → List ℕ
+bytesOf none = []
+bytesOf (c before s) = code c ∷ bytesOf s
 
 abbrev pub space : List ℕ
-space = 32 ∷ []
+space = bytesOf " "
 
 abbrev pub newline : List ℕ
-newline = 10 ∷ []
+newline = bytesOf "\n"
 
-abbrev pub digit : ℕ → ℕ
-digit d = 48 + d
+-- the fewest digits that hold n, k or more, where one of the next f is enough
+abbrev pub placesFrom : ℕ → ℕ → ℕ → ℕ
+placesFrom zero k n = k
+placesFrom (suc f) k n = choose (ltb n (10 ^ k)) k (placesFrom f (suc k) n)
 
--- n in decimal, without leading zeros, where it has at most k + 1 digits
-abbrev pub digitsUpTo : ℕ → ℕ → List ℕ
-digitsUpTo zero n = digit n ∷ []
-digitsUpTo (suc k) n = choose (ltb n 10) (digit n ∷ []) (digitsUpTo k (n / 10) ++ digit (n % 10) ∷ [])
+-- n in decimal, without leading zeros: the kit's digits, as few as hold n
+unfoldable pub places : ℕ → ℕ
+places n = placesFrom n 1 n
 
--- n has at most n + 1 digits
-unfoldable pub digits : ℕ → List ℕ
-digits n = digitsUpTo n n
+unfoldable pub decimal : ℕ → List ℕ
+decimal n = digits 10 (places n) n
 
 -- ---- lines of the output
 
 -- the flow, the number and the count
 unfoldable pub answerLine : ℕ → ℕ → ℕ → List ℕ
-answerLine flow number count = (digits flow ++ space) ++ ((digits number ++ space) ++ (digits count ++ newline))
+answerLine flow number count = (decimal flow ++ space) ++ ((decimal number ++ space) ++ (decimal count ++ newline))
 
--- `total `, ` full ` and `bad line `
-abbrev pub totalWords : List ℕ
-totalWords = 116 ∷ 111 ∷ 116 ∷ 97 ∷ 108 ∷ 32 ∷ []
+abbrev pub totalText : List ℕ
+totalText = bytesOf "total "
 
-abbrev pub fullWords : List ℕ
-fullWords = 32 ∷ 102 ∷ 117 ∷ 108 ∷ 108 ∷ 32 ∷ []
+abbrev pub fullText : List ℕ
+fullText = bytesOf " full "
 
-abbrev pub badWords : List ℕ
-badWords = 98 ∷ 97 ∷ 100 ∷ 32 ∷ 108 ∷ 105 ∷ 110 ∷ 101 ∷ 32 ∷ []
+abbrev pub badText : List ℕ
+badText = bytesOf "bad line "
 
 unfoldable pub totalLine : ℕ → ℕ → List ℕ
-totalLine total used = totalWords ++ ((digits total ++ fullWords) ++ (digits used ++ newline))
+totalLine total used = totalText ++ ((decimal total ++ fullText) ++ (decimal used ++ newline))
 
 unfoldable pub badLine : ℕ → List ℕ
-badLine n = badWords ++ (digits n ++ newline)
+badLine n = badText ++ (decimal n ++ newline)

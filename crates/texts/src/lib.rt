@@ -4,7 +4,7 @@ ghost use mathlib.Core.List.{[], _∷_, _++_};
 ghost use Prim.Native.Nat.{_<_};
 ghost use lib.ListN.{getD, length};
 ghost use Rattle.model.specs.Walls.{readHeader};
-ghost use Rattle.texts.specs.Texts.{answerLine, badLine, digit, digits, totalLine};
+ghost use Rattle.texts.specs.Texts.{answerLine, badLine, decimal, totalLine};
 ghost use Rattle.texts.specs.Writing.{Room, Wrote};
 
 // Each of these writes at a place where there is room, and gives the next place.
@@ -13,37 +13,22 @@ pub fn text(out: &mut [u8], at: usize, s: &[u8]) -> usize
     requires { ⌜ Room (now out) at (now s) ⌝ }
     ensures { λ r. ⌜ Wrote (now (out .entry)) at (now (s .entry)) (now (out .exit)) r ⌝ }
 {
-    let mut i = 0;
-    while i < s.len() {
-        out[at + i] = s[i];
-        i += 1;
-    }
-    at + s.len()
-}
-
-fn put_digit(out: &mut [u8], at: usize, d: u64) -> usize
-    requires { ⌜ (at < length (now out)) × (d < 10) ⌝ }
-    ensures { λ r. ⌜ Wrote (now (out .entry)) at (digit d ∷ []) (now (out .exit)) r ⌝ }
-{
-    out[at] = b'0' + (d as u8);
-    at + 1
+    at + bytes::copy(s, &mut out[at..])
 }
 
 fn number(out: &mut [u8], at: usize, n: u64) -> usize
-    requires { ⌜ Room (now out) at (digits n) ⌝ }
-    ensures { λ r. ⌜ Wrote (now (out .entry)) at (digits n) (now (out .exit)) r ⌝ }
+    requires { ⌜ Room (now out) at (decimal n) ⌝ }
+    ensures { λ r. ⌜ Wrote (now (out .entry)) at (decimal n) (now (out .exit)) r ⌝ }
 {
-    if n < 10 {
-        return put_digit(out, at, n);
-    }
-    let last = number(out, at, n / 10);
-    put_digit(out, last, n % 10)
+    let mut digits = [0u8; 20];
+    let k = io::decimal(n, &mut digits);
+    text(out, at, &digits[..k])
 }
 
 // A number and what ends it.
 fn field(out: &mut [u8], at: usize, n: u64, end: &[u8]) -> usize
-    requires { ⌜ Room (now out) at (digits n ++ now end) ⌝ }
-    ensures { λ r. ⌜ Wrote (now (out .entry)) at (digits n ++ now (end .entry)) (now (out .exit)) r ⌝ }
+    requires { ⌜ Room (now out) at (decimal n ++ now end) ⌝ }
+    ensures { λ r. ⌜ Wrote (now (out .entry)) at (decimal n ++ now (end .entry)) (now (out .exit)) r ⌝ }
 {
     let next = number(out, at, n);
     text(out, next, end)

@@ -2,12 +2,13 @@ use borrow.Author.Needs.{needs}
 use mathlib.Core.Path.{_≡_, refl, sym, _∙_}
 use Prim.Native.Nat.{_+_, _-_, _≤_}
 use native.Mathlib.Omega.{arith}
-use lib.ListN.{length, take, drop}
+use lib.ListN.{length, take, drop, length-drop}
 use lib.Seq.{length-take-le}
+use Rattle.bytes.specs.Bytes.{indexOf}
 use Rattle.lines.specs.declared.read.Flow.the-variants.{Number, Bad}
 use Rattle.lines.specs.Transcript.{flowOf}
-use Rattle.lines.specs.Reading.{Ends}
-use Rattle.lines.proofs.Turns.{Done, done-none, rest-is, total-room, total-done, total-words, next-in, bad-room, bad-done, bad-words, flow-room, flow-done}
+use Rattle.lines.proofs.Found.{found}
+use Rattle.lines.proofs.Turns.{Done, done-none, rest-is, total-room, total-done, total-words, bad-room, bad-done, bad-words, flow-room, flow-done}
 use Rattle.lines.proofs.each_line.Statement.{statement}
 use Rattle.lines.proofs.each_line.Tie as tie
 
@@ -18,16 +19,16 @@ abbrev μ-loop : tie.MeasureT-loop
 μ-loop input words₀ out₀ at₀ line₀ end₀ words out at line end = length input - at
 
 -- what is left of the input, its first line, and what the code finds in that
-ends : (c : tie.After-line-length Inv-loop μ-loop) → Ends (drop (c .before .before .before .loop .at) (c .before .before .before .before .before .before .before .args .input .now)) (c .line-length .result)
-ends c = rw (rest-is (c .before .before .before .before .before .before .before .args .input .now) (c .before .before .before .loop .at)) at (c .line-length .ensures)
+ends : (c : tie.After-find Inv-loop μ-loop) → c .find .result ≡ indexOf 10 (drop (c .before .before .before .loop .at) (c .before .before .before .before .before .before .before .args .input .now))
+ends c = found _ _ (rw (rest-is (c .before .before .before .before .before .before .before .args .input .now) (c .before .before .before .loop .at)) at (c .find .ensures .0))
 
-next : (c : tie.After-line-length Inv-loop μ-loop) → c .before .before .before .loop .at + c .line-length .result ≤ length (c .before .before .before .before .before .before .before .args .input .now)
-next c = next-in _ _ _ _ _ _ _ _ (c .before .before .before .loop .inv .0) (c .before .before .before .before .before .before .before .pre) (c .before .before .loop-test .taken) (c .line-length .result) (ends c)
+next : (c : tie.After-find Inv-loop μ-loop) → c .before .before .before .loop .at + c .find .result ≤ length (c .before .before .before .before .before .before .before .args .input .now)
+next c = omega (arith, rw (rest-is (c .before .before .before .before .before .before .before .args .input .now) (c .before .before .before .loop .at)) at (c .find .ensures .1), length-drop (c .before .before .before .loop .at) (c .before .before .before .before .before .before .before .args .input .now), c .before .before .loop-test .taken)
 
-bad : (c : tie.After-enum-told Inv-loop μ-loop) → Bad ≡ flowOf (take (c .before .before .before .before .line-length .result) (drop (c .before .before .before .before .before .before .before .loop .at) (c .before .before .before .before .before .before .before .before .before .before .before .args .input .now)))
+bad : (c : tie.After-enum-told Inv-loop μ-loop) → Bad ≡ flowOf (take (c .before .before .before .before .find .result) (drop (c .before .before .before .before .before .before .before .loop .at) (c .before .before .before .before .before .before .before .before .before .before .before .args .input .now)))
 bad c = sym (c .enum-told .given .1) ∙ rw (rest-is (c .before .before .before .before .before .before .before .before .before .before .before .args .input .now) (c .before .before .before .before .before .before .before .loop .at)) at (c .before .before .flow-in .ensures)
 
-flow : (c : tie.After-flow Inv-loop μ-loop) → Number (c .flow .given .0 .0) ≡ flowOf (take (c .before .before .before .before .line-length .result) (drop (c .before .before .before .before .before .before .before .loop .at) (c .before .before .before .before .before .before .before .before .before .before .before .args .input .now)))
+flow : (c : tie.After-flow Inv-loop μ-loop) → Number (c .flow .given .0 .0) ≡ flowOf (take (c .before .before .before .before .find .result) (drop (c .before .before .before .before .before .before .before .loop .at) (c .before .before .before .before .before .before .before .before .before .before .before .args .input .now)))
 flow c = sym (c .flow .given .1) ∙ rw (rest-is (c .before .before .before .before .before .before .before .before .before .before .before .args .input .now) (c .before .before .before .before .before .before .before .loop .at)) at (c .before .before .flow-in .ensures)
 
 loop-holds : tie.Need-loop-holds Inv-loop μ-loop
@@ -42,11 +43,11 @@ part-rest-start c = search needs
 part-rest-end : tie.Need-part-rest-end Inv-loop μ-loop
 part-rest-end c = search needs
 
-line-length-requires : tie.Need-line-length-requires Inv-loop μ-loop
-line-length-requires c κs = search needs
+find-requires : tie.Need-find-requires Inv-loop μ-loop
+find-requires c κs = search needs
 
 slice-aggregate-flow-in : tie.Need-slice-aggregate-flow-in Inv-loop μ-loop
-slice-aggregate-flow-in c = let n = c .before .line-length in sym (length-take-le (n .result) _ (n .ensures .within))
+slice-aggregate-flow-in c = let n = c .before .find in sym (length-take-le (n .result) _ (n .ensures .1))
 
 flow-in-requires : tie.Need-flow-in-requires Inv-loop μ-loop
 flow-in-requires c κs = search needs
@@ -132,7 +133,7 @@ each-line-spec =
     sub-rest
     part-rest-start
     part-rest-end
-    line-length-requires
+    find-requires
     slice-aggregate-flow-in
     flow-in-requires
     enum-known-flow

@@ -1,6 +1,6 @@
 use borrow.Author.Needs.{needs}
 use mathlib.Core.List.{_++_}
-use Rattle.texts.specs.Texts.{digits, space, newline, answerLine}
+use Rattle.texts.specs.Texts.{decimal, space, newline, answerLine}
 use Rattle.texts.proofs.Texts.{room-first, room-second, room-third, all-three}
 use Rattle.texts.proofs.answer.Statement.{statement}
 use Rattle.texts.proofs.answer.Tie as tie
@@ -13,7 +13,7 @@ unfolding answerLine
 field-requires c κs =
     let s = c .before .before .before in
     let a = s .args in
-    room-first (a .out .now) (a .at) (digits (a .flow) ++ space) ((digits (a .a .number) ++ space) ++ (digits (a .a .value) ++ newline)) (s .pre)
+    room-first (a .out .now) (a .at) (decimal (a .flow) ++ space) ((decimal (a .a .number) ++ space) ++ (decimal (a .a .value) ++ newline)) (s .pre)
 
 slice-aggregate-field-2 : tie.Need-slice-aggregate-field-2
 slice-aggregate-field-2 c = search needs
@@ -23,7 +23,7 @@ unfolding answerLine
 field-requires-2 c κs =
     let s = c .before .before .before .before .before .before .before .before in
     let a = s .args in
-    room-second (a .out .now) (a .at) (digits (a .flow) ++ space) (digits (a .a .number) ++ space) (digits (a .a .value) ++ newline) (s .pre) (c .before .before .before .before .field .ensures)
+    room-second (a .out .now) (a .at) (decimal (a .flow) ++ space) (decimal (a .a .number) ++ space) (decimal (a .a .value) ++ newline) (s .pre) (c .before .before .before .before .field .ensures)
 
 slice-aggregate-field-3 : tie.Need-slice-aggregate-field-3
 slice-aggregate-field-3 c = search needs
@@ -33,7 +33,7 @@ unfolding answerLine
 field-requires-3 c κs =
     let s = c .before .before .before .before .before .before .before .before .before .before .before .before .before in
     let a = s .args in
-    room-third (a .out .now) (a .at) (digits (a .flow) ++ space) (digits (a .a .number) ++ space) (digits (a .a .value) ++ newline) (s .pre) (c .before .before .before .before .before .before .before .before .before .field .ensures) (c .before .before .before .before .field2 .ensures)
+    room-third (a .out .now) (a .at) (decimal (a .flow) ++ space) (decimal (a .a .number) ++ space) (decimal (a .a .value) ++ newline) (s .pre) (c .before .before .before .before .before .before .before .before .before .field .ensures) (c .before .before .before .before .field2 .ensures)
 
 same-length : tie.Need-same-length
 same-length c = search needs
@@ -43,7 +43,7 @@ unfolding answerLine
 returns c =
     let s = c .before .before .before .before .before .before .before .before .before .before .before .before .before .before .before .before in
     let a = s .args in
-    all-three (a .out .now) (a .at) (digits (a .flow) ++ space) (digits (a .a .number) ++ space) (digits (a .a .value) ++ newline) (s .pre) (c .before .before .before .before .before .before .before .before .before .before .before .before .field .ensures) (c .before .before .before .before .before .before .before .field2 .ensures) (c .before .before .field3 .ensures)
+    all-three (a .out .now) (a .at) (decimal (a .flow) ++ space) (decimal (a .a .number) ++ space) (decimal (a .a .value) ++ newline) (s .pre) (c .before .before .before .before .before .before .before .before .before .before .before .before .field .ensures) (c .before .before .before .before .before .before .before .field2 .ensures) (c .before .before .field3 .ensures)
 
 pub answer-spec : {M : Type 1} → statement M
 answer-spec =
