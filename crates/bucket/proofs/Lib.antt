@@ -2,4 +2,3 @@ pub mod Views
 pub mod BucketWords
 pub mod Stored
 pub mod Stepping
-pub mod Rule

@@ -3,7 +3,7 @@ use mathlib.Core.Path.{_≡_, refl, sym, ap, ap₂, _∙_, subst}
 use mathlib.Core.Bool.{Bool, true, false, not}
 use mathlib.Core.Logic.{_↔_}
 use mathlib.Core.List.{List, [], _∷_}
-use Prim.Native.Nat.{ℕ, zero, suc, _+_, _/_, _%_, _^_, _≤_, _<_}
+use Prim.Native.Nat.{ℕ, zero, suc, _/_, _%_, _^_, _≤_, _<_}
 use native.Mathlib.Nat.{le-of-eq, zero-add, div-eq-of-lt, div-one}
 use native.Mathlib.Omega.{arith}
 use lib.Dec.{T, leb}
@@ -13,11 +13,12 @@ use lib.Count.{ones}
 use Rattle.model.specs.Lists.{sum, byMark}
 use Rattle.model.specs.Packed.{pack, bit, rank, replaced}
 use Rattle.model.specs.Shapes.{Row, row, allRows, counterBits, markWidths}
-use Rattle.model.specs.Levels.{Level, level, parts, marks, onward, encode, soundLevels, atLeast, crowded}
+use Rattle.model.specs.Levels.{Level, level, marks, encode, soundLevels, atLeast, crowded}
 use Rattle.model.specs.Walls as model
 use Rattle.model.specs.Sound.{levelsOf, ownCounts}
 use Rattle.model.specs.Calls.{fromLevels, holding}
 use Rattle.model.proofs.Lists.{Below}
+use Rattle.model.proofs.Tools.{bool-eq}
 use Rattle.model.proofs.Coding.{Fits, Sound}
 use Rattle.model.proofs.Crowding.{T-true, T-false, bucket-fits}
 use Rattle.model.proofs.Buckets.{levels-sound, sound-levels, length-own, own-fits, own-coded}
@@ -28,8 +29,8 @@ use Rattle.shapes.proofs.Shapes.{facts}
 use Rattle.rooms.specs.Growth.{entering, roomToEnter, raising, roomToRaise}
 use Rattle.rooms.proofs.Encoded.{zero-lt, raise-stay, raising-encode, room-to-raise, fits-same}
 use Rattle.bucket.specs.declared.Bucket.{Bucket}
-use Rattle.bucket.specs.Views.{bucketOf, ownOf, soundOf}
-use Rattle.growth.specs.Levels.{Fit, levelsFrom, levelsIn}
+use Rattle.bucket.specs.Views.{bucketOf, ownOf}
+use Rattle.growth.specs.Levels.{levelsFrom, levelsIn}
 use Rattle.growth.specs.Grow.{Grown, Stands, Comes, Rises}
 use Rattle.bucket.specs.Raise.{Raises, RaisesIn, Stays, hasRoom}
 use Rattle.growth.proofs.Ahead.{at-start}
@@ -39,12 +40,6 @@ use Rattle.growth.proofs.Raising.{mark-set, rank-lt}
 use Rattle.bucket.proofs.Stored.{from-own}
 
 -- ---- said of the counts
-
-bool-eq : (a b : Bool) → (T a → T b) → (T b → T a) → a ≡ b
-bool-eq true true f g = refl
-bool-eq false false f g = refl
-bool-eq true false f g = absurd (f tt)
-bool-eq false true f g = absurd (g tt)
 
 at-least-set : (b : ℕ) (vs : List ℕ) (a v : ℕ) → v < b → atLeast b vs ≤ 0 → atLeast b (set vs a v) ≤ 0
 unfolding atLeast

@@ -2,7 +2,7 @@
 use mathlib.Core.Path.{_≡_, refl, sym, ap, _∙_, subst}
 use mathlib.Core.List.{List, _∷_, map}
 use Prim.Native.Nat.{ℕ, zero, suc, _+_, _-_, _*_, _/_, _%_, _^_, _≤_, _<_}
-use native.Mathlib.Nat.{mod-lt, mod-one, mod-eq-of-lt, mul-suc, mul-comm, mul-le-mul-left}
+use native.Mathlib.Nat.{mod-lt, mod-one, mod-eq-of-lt, mul-suc}
 use native.Mathlib.Omega.{arith}
 use lib.ListN.{length, getD, take, drop}
 use lib.Seq.{drop-cons, length-take-le}
@@ -12,7 +12,7 @@ use Rattle.model.specs.Packed.{pack, unpack, replaced, joinFields, cutFields}
 use Rattle.model.specs.Shapes.{markWidths}
 use Rattle.model.specs.Levels.{Level, level}
 use Rattle.model.specs.Sound.{packedWord}
-use Rattle.model.specs.Calls.{fromLevels, overflowed}
+use Rattle.model.specs.Calls.{fromLevels}
 use Rattle.model.proofs.Lists.{Below, below-take}
 use Rattle.model.proofs.Packing.{pack-take}
 use Rattle.model.proofs.Fields.{join-cut}
@@ -33,9 +33,6 @@ replaced-cut w x a v t h =
     let e : t + w + w * a ≡ t + w * suc a = rw mul-suc (omega arith) in
     let up : x % 2 ^ (t + w + w * a) / 2 ^ (w * suc a) ≡ y % 2 ^ t = ap (λ n. x % 2 ^ n / 2 ^ (w * suc a)) e ∙ field x t (w * suc a) in
     rw (mod-pow-add (replaced w x a v) (t + w) (w * a), high (y * 2 ^ w + v) (w * a) (mod-lt x (pow-pos (w * a))), low (y * 2 ^ w + v) (w * a) (mod-lt x (pow-pos (w * a))), mod-pow-add (y * 2 ^ w + v) t w, high y w h, low y w h, up, mod-mod-pow x (t + w) (w * a))
-
-pub first-fits : (w a : ℕ) → a < 64 → w * a + w ≤ 64 * w
-first-fits w a h = let k : suc a ≤ 64 = h in omega (arith, mul-suc w a, mul-comm w 64, mul-le-mul-left w k)
 
 -- the first n words hold the entry, so what is stored is stored into them
 pub take-replaced : (ws rs : List ℕ) (n w a v : ℕ) → Below (2 ^ 64) ws → Below (2 ^ 64) rs → w * a + w ≤ 64 * n → v < 2 ^ w → pack 64 rs ≡ replaced w (pack 64 ws) a v

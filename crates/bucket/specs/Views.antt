@@ -1,13 +1,11 @@
 -- A bucket of the code as the model's, and what the model says of it.
-use mathlib.Core.Bool.{Bool}
 use mathlib.Core.List.{List}
 use Prim.Native.Nat.{ℕ}
 use lib.ListN.{take, drop}
-use Rattle.model.specs.Shapes.{allRows, bucketSize}
-use Rattle.model.specs.Levels.{soundLevels}
+use Rattle.model.specs.Shapes.{bucketSize}
 use Rattle.model.specs.Walls.{readBucket}
 use Rattle.model.specs.Walls as model
-use Rattle.model.specs.Sound.{levelsOf, ownCounts}
+use Rattle.model.specs.Sound.{ownCounts}
 use Rattle.shapes.specs.declared.Shape.{Shape}
 use Rattle.shapes.specs.Shapes.{rowsIn}
 use Rattle.bucket.specs.declared.Bucket.{Bucket}
@@ -19,10 +17,6 @@ bucketOf s b = record { first = take (s .width) (b .first); marks = b .marks; up
 -- the 64 counts that its levels hold
 abbrev pub ownOf : Shape → Bucket → List ℕ
 ownOf s b = ownCounts (s .width) (rowsIn s) (bucketOf s b)
-
--- its levels are sound
-abbrev pub soundOf : Shape → Bucket → Bool
-soundOf s b = soundLevels 0 (allRows (s .width) (rowsIn s)) 64 (levelsOf (rowsIn s) (bucketOf s b))
 
 -- the bucket of this shape whose words begin at an offset
 abbrev pub bucketIn : Shape → List ℕ → ℕ → model.Bucket

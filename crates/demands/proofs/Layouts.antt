@@ -1,7 +1,7 @@
 -- The parts of a count, which counters use a level, the bits of a counter, and the bytes of an image.
 use mathlib.Core.Logic.{_↔_}
-use mathlib.Core.Path.{_≡_, refl, sym, ap, ap₂, subst, _∙_}
-use mathlib.Core.Bool.{Bool, true, false, not}
+use mathlib.Core.Path.{_≡_, sym, ap, ap₂, subst, _∙_}
+use mathlib.Core.Bool.{false, not}
 use mathlib.Core.List.{List}
 use Prim.Native.Nat.{ℕ, suc, _+_, _*_, _^_, _≤_, _<_}
 use native.Mathlib.Nat.{mod-lt}
@@ -18,6 +18,7 @@ use Rattle.model.specs.After.{ownAfter}
 use Rattle.model.proofs.Lists.{getD-tab}
 use Rattle.model.proofs.Buckets.{own-coded}
 use Rattle.model.proofs.SoundWalls.{SoundWall, check-sound}
+use Rattle.model.proofs.Crowding.{T-false}
 use Rattle.model.proofs.Headers.{bucket-lt}
 use Rattle.model.proofs.Growth.{Wide}
 use Rattle.model.proofs.Bridge.{bump-hold, room-crowded}
@@ -47,10 +48,6 @@ weighted ws i a h =
     getD-tab 64 (readAt rs ls) a h ∙ read-parts rs ls a
 
 -- ---- a bucket without the flag grows
-
-none : (x : Bool) → T (not x) → x ≡ false
-none true t = absurd t
-none false t = refl
 
 module _ (ws : List ℕ) (y : ℕ) (ok : Accepted ws) (below-limit : parse ws .header .total < parse ws .header .limit) (e : flag (bucketAt (parse ws) (bucketOf (parse ws .header) y)) ≡ 0) where
   abbrev v : Wall
@@ -101,7 +98,7 @@ module _ (ws : List ℕ) (y : ℕ) (ok : Accepted ws) (below-limit : parse ws .h
   carried : increment ws y .number ≡ 0 → T (roomFor v i a) → bucketAt (parse (increment ws y .words)) i ≡ carriedIn v i a
   unfolding ownAfter
   carried h t =
-      let z : noRoom v i a (count v y + 1) ≡ false = sym (ap (λ m. byMark m (noRoom v i a (count v y + 1)) false) e) ∙ none (overflows v i a (count v y + 1)) (room .0 t) in
+      let z : noRoom v i a (count v y + 1) ≡ false = sym (ap (λ m. byMark m (noRoom v i a (count v y + 1)) false) e) ∙ sym (T-false (overflows v i a (count v y + 1)) (room .0 t)) in
       increment-raises ws y ok h .own
       ∙ ap₂ (λ m x. byMark m (choose x (overflowed (bucketAt v i) (v .header .used)) (holding w rs (set os a (count v y + 1)))) (bucketAt v i)) e z
       ∙ ap (λ n. holding w rs (set os a (n + 1))) own-count

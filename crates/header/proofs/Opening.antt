@@ -2,14 +2,14 @@
 use mathlib.Core.Path.{_≡_, refl, sym, ap, ap₂, _∙_, subst}
 use mathlib.Core.Bool.{Bool, true, false, not}
 use mathlib.Core.List.{List}
-use Prim.Native.Nat.{ℕ, zero, suc, _+_, _-_, _*_, _/_, _%_, _^_, _≤_, _<_}
+use Prim.Native.Nat.{ℕ, _+_, _-_, _*_, _/_, _%_, _^_, _≤_, _<_}
 use native.Mathlib.Omega.{arith}
 use lib.Dec.{T, leb, le→leb, leb→le}
 use lib.Pow.{pow-mono, shr-shr, shr-lt}
 use native.Mathlib.Nat.{mul-le-mul, mod-eq-of-lt}
 use lib.ListN.{length}
 use Rattle.model.specs.Lists.{choose}
-use Rattle.model.specs.Shapes.{knownShape, validWidth, rowsOf, counterBits}
+use Rattle.model.specs.Shapes.{knownShape, validWidth, rowsOf}
 use Rattle.model.specs.Slots.{knownBits}
 use Rattle.model.specs.Walls.{Header, headField, letters, version, wordAt, good, limits, limitFits, fullFits, bucketsIn, bucketLength, wallSize}
 use Rattle.model.proofs.Crowding.{T-true}
@@ -22,13 +22,6 @@ use Rattle.layout.specs.Views.{headerOf}
 use Rattle.shapes.proofs.Shapes.{table-shape, table-length}
 use Rattle.header.specs.declared.Opened.the-variants.{Good, Bad}
 use Rattle.header.specs.Headers.{fieldsOf, Known, Marked, Open, openedOf}
-
--- a Bool by what it says
-pub bool-eq : (a b : Bool) → (T a → T b) → (T b → T a) → a ≡ b
-bool-eq true true f g = refl
-bool-eq false false f g = refl
-bool-eq true false f g = absurd (f tt)
-bool-eq false true f g = absurd (g tt)
 
 pub is-false : (b : Bool) → (T b → ⊥) → false ≡ b
 is-false true f = absurd (f tt)

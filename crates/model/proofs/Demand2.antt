@@ -7,25 +7,26 @@ use Prim.Native.Nat.{ℕ, _+_, _*_, _/_, _%_, _≤_, _<_}
 use native.Mathlib.Nat.{le-refl, mod-lt}
 use native.Mathlib.Omega.{arith}
 use lib.Dec.{T, eqb, nleb→lt, eqb-refl, lit<, T-not}
-use lib.Arith.{lt→nleb, lt-of-le-ne}
+use lib.Arith.{lt-of-le-ne}
 use lib.ListN.{length, getD, length-append, length-map}
 use lib.Seq.{getD-set-same, getD-set-other}
 use Rattle.model.specs.Lists.{oneIf, byMark, concat}
 use Rattle.model.specs.Shapes.{rowsOf}
 use Rattle.model.specs.Slots.{slot}
-use Rattle.model.specs.Walls.{Header, Wall, bucketsIn, flows, wallSize, bucketWords, fullWords, readHeader, good, flatten, parse, withTotals, bucketOf, placeOf}
+use Rattle.model.specs.Walls.{Header, Wall, bucketsIn, flows, wallSize, bucketWords, fullWords, readHeader, flatten, parse, withTotals, bucketOf, placeOf}
 use Rattle.model.specs.Sound.{flag, bucketAt, fullFor, countsAt, soundAt, count}
 use Rattle.model.specs.Calls.{Clear, Outcome, firstMet, noRoom, overflows, bucketRefusals, stepRefusals, raisedBy, lookup, increment, check}
 use Rattle.model.specs.After.{ownAfter, fullAfter}
 use Rattle.model.proofs.Tests.{every-at}
 use Rattle.model.proofs.Slots.{slot-inj}
-use Rattle.model.proofs.Tools.{by-eq, to-not-not}
+use Rattle.model.proofs.Tools.{by-eq}
 use Rattle.model.proofs.Pieces.{length-cat}
 use Rattle.model.proofs.Headers.{Good, Limits, of-good, bucket-lt}
 use Rattle.model.proofs.Parsing.{Shaped, Coded, coded-of, read-head, head-marked, parse-flatten, offset-fulls, sized-fulls}
 use Rattle.model.proofs.SoundWalls.{SoundWall, check-sound, of-sound}
 use Rattle.model.proofs.OwnSteps.{length-countsAt}
 use Rattle.model.proofs.Steps.{Stepped, step-sound}
+use Rattle.model.proofs.Meets.{meets-none}
 use Rattle.model.proofs.Refusals.{Named, first-clear, clear-first, answer-no, answer-done}
 
 -- ---- the words of a sound wall are accepted
@@ -196,17 +197,9 @@ increment-raises ws y ok e =
 -- on an accepted wall none of 7, 8 and 9 is met for a flow of the wall
 pub own-clear : (ws : List ℕ) (y : ℕ) → Accepted ws → y < flows (parse ws .header) → Clear (bucketRefusals ws y)
 own-clear ws y ok h =
-    let a = check-sound ws .0 ok in (
-      to-not-not (good ws) (of-good ws (a .0)),
-      (
-        lt→nleb (flows (parse ws .header)) y h,
-        (
-          to-not-not (soundAt (parse ws) (bucketOf (parse ws .header) y))
-              (every-at (bucketsIn (parse ws .header)) (soundAt (parse ws)) (of-sound (parse ws) (a .1) .0) (bucketOf (parse ws .header) y) (bucket-lt (parse ws .header .bits) y (a .1 .limits .bits-low))),
-          tt,
-        ),
-      ),
-    )
+    let a = check-sound ws .0 ok in
+    meets-none ws y (of-good ws (a .0)) h
+    (every-at (bucketsIn (parse ws .header)) (soundAt (parse ws)) (of-sound (parse ws) (a .1) .0) (bucketOf (parse ws .header) y) (bucket-lt (parse ws .header .bits) y (a .1 .limits .bits-low)))
 
 pub lookup-count : (ws : List ℕ) (y : ℕ) → Accepted ws → y < flows (parse ws .header) → lookup ws y ≡ record { number = 0; value = count (parse ws) y; words = ws }
 unfolding lookup

@@ -22,6 +22,7 @@ pub mod Needed
 pub mod OwnSteps
 pub mod Steps
 pub mod Refusals
+pub mod Meets
 pub mod Demand2
 pub mod Eleven
 pub mod Fresh

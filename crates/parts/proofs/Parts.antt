@@ -13,12 +13,13 @@ use Rattle.model.specs.Walls as model
 use Rattle.model.specs.Sound.{ownCounts}
 use Rattle.model.specs.Calls.{holding}
 use Rattle.model.proofs.Lists.{Below}
+use Rattle.model.proofs.Packing.{first-fits}
 use Rattle.shapes.specs.declared.Shape.{Shape}
 use Rattle.shapes.specs.Shapes.{rowsIn}
 use Rattle.bucket.specs.declared.Bucket.{Bucket}
 use Rattle.bucket.specs.Views.{bucketOf, bucketIn}
 use Rattle.bucket.specs.Raise.{Put, Raises, RaisesIn, Stays}
-use Rattle.bucket.proofs.Stored.{first-fits, take-replaced}
+use Rattle.bucket.proofs.Stored.{take-replaced}
 use Rattle.bucket.proofs.Stepping.{firstOf, held-stay}
 
 -- what such a step asks, and the words that it leaves

@@ -13,12 +13,12 @@ use Rattle.model.specs.Walls.{Wall, bucketsIn, good, parse}
 use Rattle.model.specs.Sound.{allCounts, fullsZero, holders, soundAt, soundBuckets, soundRest}
 use Rattle.model.specs.Calls.{Refusal, refuse, firstMet, check, checkRefusals}
 use Rattle.model.proofs.Tests.{every-at, every-of}
-use Rattle.model.proofs.Tools.{all-tests, tests-all, to-not-not}
+use Rattle.model.proofs.Tools.{bool-eq, all-tests, tests-all, to-not-not}
 use Rattle.model.proofs.Headers as model
 use Rattle.model.proofs.Refusals.{first-met, first-clear}
 use Rattle.whole.specs.declared.Tally.{Tally}
 use Rattle.whole.specs.Check.{Passed, holdersTo}
-use Rattle.header.proofs.Opening.{bool-eq, is-false}
+use Rattle.header.proofs.Opening.{is-false}
 use Rattle.whole.proofs.Holding.{each-one, sum-units}
 
 -- ---- the lowest unsound bucket

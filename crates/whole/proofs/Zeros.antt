@@ -13,12 +13,11 @@ use Rattle.model.specs.Lists.{sum, oneIf, byMark, every}
 use Rattle.model.specs.Walls.{Full, Header, Wall, bucketsIn, bucketLength, wordAt, readFull, parse, emptyFull}
 use Rattle.model.specs.Sound.{fullsZero, isEmptyFull}
 use Rattle.model.proofs.Tests.{every-at, every-of}
-use Rattle.model.proofs.Tools.{and-tests, tests-and}
+use Rattle.model.proofs.Tools.{bool-eq, and-tests, tests-and}
 use Rattle.model.proofs.Headers as model
 use Rattle.layout.specs.declared.Wall as layout
 use Rattle.layout.specs.Views.{headerOf}
 use Rattle.header.specs.Headers.{Open}
-use Rattle.header.proofs.Opening.{bool-eq}
 use Rattle.header.proofs.Places.{full-here, open-header, open-length, open-limits}
 
 -- no word is left

@@ -1,6 +1,7 @@
 use Rattle.increment.proofs.Raising.{increment-refuses, increment-at}
 use Rattle.increment.specs.OneMore.{oneMore}
-use Rattle.found.proofs.Finding.{meets-7, meets-8, flows-of, bucket-of, place-of, bucket-in}
+use Rattle.model.proofs.Meets.{meets-7, meets-8}
+use Rattle.found.proofs.Finding.{flows-of, bucket-of, place-of, bucket-in}
 use Rattle.header.proofs.Places.{open-known}
 use Rattle.header.proofs.Opening.{is-open, not-opened}
 use Rattle.header.specs.Headers.{Open}

@@ -15,7 +15,8 @@ use Rattle.uppers.proofs.Verdicts.{said-sound, said-not}
 use Rattle.header.specs.Headers.{Open}
 use Rattle.header.proofs.Opening.{is-open, not-opened}
 use Rattle.header.proofs.Places.{open-known}
-use Rattle.found.proofs.Finding.{meets-7, meets-8, meets-9, meets-none, flows-of, bucket-of, place-of, bucket-in, count-of}
+use Rattle.model.proofs.Meets.{meets-7, meets-8, meets-9, meets-none}
+use Rattle.found.proofs.Finding.{flows-of, bucket-of, place-of, bucket-in, count-of}
 use Rattle.lookup.proofs.Answers.{lookup-refuses, lookup-done}
 use Rattle.lookup.proofs.lookup.Statement.{statement}
 use Rattle.lookup.proofs.lookup.Tie as tie

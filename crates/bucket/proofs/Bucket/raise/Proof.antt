@@ -1,5 +1,5 @@
 use Rattle.bucket.proofs.Stepping.{firstOf, held-low, held-on, comes, rises, entered-levels, raised-levels}
-use Rattle.bucket.proofs.Stored.{first-fits, take-replaced}
+use Rattle.bucket.proofs.Stored.{take-replaced}
 use Rattle.growth.proofs.Raising.{mark-set}
 use Rattle.growth.specs.Grow.{Comes, Rises}
 use Rattle.growth.specs.Levels.{levelsIn}
@@ -8,6 +8,7 @@ use Rattle.shapes.proofs.Shapes.{facts}
 use Rattle.shapes.specs.Shapes.{rowsIn}
 use Rattle.cells.proofs.Crossing.{below-of}
 use Rattle.model.proofs.Lists.{Below}
+use Rattle.model.proofs.Packing.{first-fits}
 use Rattle.model.specs.Packed.{bit, rank, replaced}
 use Rattle.model.specs.Lists.{byMark}
 use mir.Syntax.{w64}
