@@ -13,7 +13,7 @@ use Rattle.model.specs.Walls.{bucketWords, readBucket, readRest}
 use Rattle.shapes.specs.declared.Shape.{Shape}
 use Rattle.bucket.specs.declared.Bucket.{Bucket}
 use Rattle.shapes.specs.Shapes.{rowsIn, Valid}
-use Rattle.bucket.specs.Views.{bucketOf}
+use Rattle.bucket.specs.Views.{asBucket}
 use Rattle.shapes.proofs.Shapes.{facts, rows-length}
 use Rattle.model.proofs.Splices.{splice-copy, word-more, copy-more}
 
@@ -31,7 +31,7 @@ room s at n v h =
 pub stored : (s : Shape) (b : Bucket) (ws : List ℕ) (at : ℕ) (x y : List ℕ) → Room s at (length ws) → length (b .first) ≡ 16 → length (b .upper .words) ≡ 4
     → x ≡ paste ws at (b .first) (s .width)
     → y ≡ paste (set x (at + s .width) (b .marks)) (at + s .width + 1) (b .upper .words) (s .uppers)
-    → set y (at + s .width + 1 + s .uppers) (b .upper .packed) ≡ splice ws at (bucketWords (bucketOf s b))
+    → set y (at + s .width + 1 + s .uppers) (b .upper .packed) ≡ splice ws at (bucketWords (asBucket s b))
 stored s b ws at x y r lf lu ex ey =
     let f : List ℕ = take (s .width) (b .first) in
     let u : List ℕ = take (s .uppers) (b .upper .words) in
@@ -44,7 +44,7 @@ stored s b ws at x y r lf lu ex ey =
     let e3 : y ≡ splice ws at ((f ++ b .marks ∷ []) ++ u) =
     ey ∙ copy-more ws at (f ++ b .marks ∷ []) (set x (at + s .width) (b .marks)) e2 (at + s .width + 1) (omega (arith, n2)) (b .upper .words) (s .uppers) (omega (arith, r .upper)) (omega (arith, r .inside)) in
     let n3 : length ((f ++ b .marks ∷ []) ++ u) ≡ s .width + 1 + s .uppers = length-append (f ++ b .marks ∷ []) u ∙ ap₂ _+_ n2 nu in
-    let e4 : ((f ++ b .marks ∷ []) ++ u) ++ b .upper .packed ∷ [] ≡ bucketWords (bucketOf s b) = simp append-assoc in
+    let e4 : ((f ++ b .marks ∷ []) ++ u) ++ b .upper .packed ∷ [] ≡ bucketWords (asBucket s b) = simp append-assoc in
     word-more ws at ((f ++ b .marks ∷ []) ++ u) y e3 (at + s .width + 1 + s .uppers) (omega (arith, n3)) (b .upper .packed) (r .inside)
     ∙ ap (splice ws at) e4
 
@@ -80,7 +80,7 @@ read-cut w n l =
 pub taken : (s : Shape) (ws : List ℕ) (at : ℕ) (f u y z : List ℕ) → Room s at (length ws)
     → f ≡ paste y 0 (drop at ws) (s .width)
     → u ≡ paste z 0 (drop (at + s .width + 1) ws) (s .uppers)
-    → bucketOf s (record { first = f; marks = getD ws (at + s .width) 0; upper = record { words = u; packed = getD ws (at + s .width + 1 + s .uppers) 0 } })
+    → asBucket s (record { first = f; marks = getD ws (at + s .width) 0; upper = record { words = u; packed = getD ws (at + s .width + 1 + s .uppers) 0 } })
     ≡ readBucket (s .width) (rowsIn s) (take (bucketSize (s .width) (rowsIn s)) (drop at ws))
 taken s ws at f u y z r ef eu =
     let w : ℕ = s .width in

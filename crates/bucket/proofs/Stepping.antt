@@ -29,10 +29,10 @@ use Rattle.shapes.proofs.Shapes.{facts}
 use Rattle.rooms.specs.Growth.{entering, roomToEnter, raising, roomToRaise}
 use Rattle.rooms.proofs.Encoded.{zero-lt, raise-stay, raising-encode, room-to-raise, fits-same}
 use Rattle.bucket.specs.declared.Bucket.{Bucket}
-use Rattle.bucket.specs.Views.{bucketOf, ownOf}
+use Rattle.bucket.specs.Views.{asBucket, ownOf}
 use Rattle.growth.specs.Levels.{levelsFrom, levelsIn}
 use Rattle.growth.specs.Grow.{Grown, Stands, Comes, Rises}
-use Rattle.bucket.specs.Raise.{Raises, RaisesIn, Stays, hasRoom}
+use Rattle.bucket.specs.Raise.{Raises, RaisesIn, Stays, roomFor}
 use Rattle.growth.proofs.Ahead.{at-start}
 use Rattle.bucket.proofs.Views.{levels-view}
 use Rattle.growth.proofs.Growing.{mark-pos, rank-count}
@@ -138,10 +138,10 @@ module _ (s : Shape) (b : Bucket) (four : length (b .upper .words) ≡ 4) (a v :
   abbrev w : ℕ
   w = s .width
 
-  sound-own : Sound 0 (allRows w (rowsIn s)) 64 (levelsOf (rowsIn s) (bucketOf s b))
-  sound-own = levels-sound 0 (allRows w (rowsIn s)) 64 (levelsOf (rowsIn s) (bucketOf s b)) (k .sound)
+  sound-own : Sound 0 (allRows w (rowsIn s)) 64 (levelsOf (rowsIn s) (asBucket s b))
+  sound-own = levels-sound 0 (allRows w (rowsIn s)) 64 (levelsOf (rowsIn s) (asBucket s b)) (k .sound)
 
-  view : ownLevels s b ≡ levelsOf (rowsIn s) (bucketOf s b)
+  view : ownLevels s b ≡ levelsOf (rowsIn s) (asBucket s b)
   view = levels-view s b (k .fit) four
 
   -- the upper levels of a sound bucket are sound
@@ -150,25 +150,25 @@ module _ (s : Shape) (b : Bucket) (four : length (b .upper .words) ≡ 4) (a v :
       let p : Sound 0 (allRows w (rowsIn s)) 64 (ownLevels s b) = subst (Sound 0 (allRows w (rowsIn s)) 64) (sym view) sound-own in
       sound-levels 1 (rowsIn s) (ones (b .marks)) (uppersOf s b) (p .4)
 
-  room-is : roomToRaise (allRows w (rowsIn s)) (ownLevels s b) a v ≡ hasRoom s b a v
+  room-is : roomToRaise (allRows w (rowsIn s)) (ownLevels s b) a v ≡ roomFor s b a v
   room-is =
       ap (λ ls. roomToRaise (allRows w (rowsIn s)) ls a v) view
-      ∙ room-own w (rowsIn s) (bucketOf s b) sound-own a v (k .place) (k .larger) (k .counter)
+      ∙ room-own w (rowsIn s) (asBucket s b) sound-own a v (k .place) (k .larger) (k .counter)
 
   levels-are : raising (allRows w (rowsIn s)) (ownLevels s b) a v ≡ encode (allRows w (rowsIn s)) (set (ownOf s b) a v)
-  levels-are = ap (λ ls. raising (allRows w (rowsIn s)) ls a v) view ∙ raising-own w (rowsIn s) (bucketOf s b) sound-own a v (k .place) (k .larger)
+  levels-are = ap (λ ls. raising (allRows w (rowsIn s)) ls a v) view ∙ raising-own w (rowsIn s) (asBucket s b) sound-own a v (k .place) (k .larger)
 
   -- ---- room
 
-  pub room-low : v / 2 ^ w ≡ 0 → true ≡ hasRoom s b a v
+  pub room-low : v / 2 ^ w ≡ 0 → true ≡ roomFor s b a v
   room-low z = low-room w (rowsIn s) (firstOf s b) (b .marks) (uppersOf s b) a v z ∙ room-is
 
-  pub room-in : 0 < v / 2 ^ w → bit (b .marks) a ≡ 0 → roomToEnter (rowsIn s) (ones (b .marks)) (uppersOf s b) (v / 2 ^ w) ≡ hasRoom s b a v
+  pub room-in : 0 < v / 2 ^ w → bit (b .marks) a ≡ 0 → roomToEnter (rowsIn s) (ones (b .marks)) (uppersOf s b) (v / 2 ^ w) ≡ roomFor s b a v
   room-in z e =
       ap (λ m. byMark m (roomToEnter (rowsIn s) (ones (b .marks)) (uppersOf s b) (v / 2 ^ w)) (roomToRaise (rowsIn s) (uppersOf s b) (rank (b .marks) a) (v / 2 ^ w))) (sym e)
       ∙ on-room w (rowsIn s) (firstOf s b) (b .marks) (uppersOf s b) a v z ∙ room-is
 
-  pub room-on : 0 < v / 2 ^ w → (bit (b .marks) a ≡ 0 → ⊥) → roomToRaise (rowsIn s) (uppersOf s b) (rank (b .marks) a) (v / 2 ^ w) ≡ hasRoom s b a v
+  pub room-on : 0 < v / 2 ^ w → (bit (b .marks) a ≡ 0 → ⊥) → roomToRaise (rowsIn s) (uppersOf s b) (rank (b .marks) a) (v / 2 ^ w) ≡ roomFor s b a v
   room-on z f =
       ap (λ m. byMark m (roomToEnter (rowsIn s) (ones (b .marks)) (uppersOf s b) (v / 2 ^ w)) (roomToRaise (rowsIn s) (uppersOf s b) (rank (b .marks) a) (v / 2 ^ w))) (sym (mark-set (b .marks) a f))
       ∙ on-room w (rowsIn s) (firstOf s b) (b .marks) (uppersOf s b) a v z ∙ room-is
@@ -177,7 +177,7 @@ module _ (s : Shape) (b : Bucket) (four : length (b .upper .words) ≡ 4) (a v :
 
   module _ (r : Bucket) (p : firstOf s r ≡ replaced w (firstOf s b) a (v % 2 ^ w)) (below : Below (2 ^ 64) (r .first)) (long : length (r .first) ≡ 16) (four-r : length (r .upper .words) ≡ 4) where
     holds : r .upper .packed < 2 ^ sum (markWidths (rowsIn s)) → ownLevels s r ≡ encode (allRows w (rowsIn s)) (set (ownOf s b) a v)
-        → bucketOf s r ≡ holding w (rowsIn s) (set (ownOf s b) a v)
+        → asBucket s r ≡ holding w (rowsIn s) (set (ownOf s b) a v)
     unfolding holding
     holds h e = sym (from-own s r (k .fit) long four-r below h) ∙ ap (λ ls. fromLevels w (rowsIn s) ls 0 0) e
 
@@ -189,11 +189,11 @@ module _ (s : Shape) (b : Bucket) (four : length (b .upper .words) ≡ 4) (a v :
       small : r .upper .packed < 2 ^ sum (markWidths (rowsIn s))
       small = subst (λ (u : Upper). u .packed < 2 ^ sum (markWidths (rowsIn s))) (sym qu) (k .plain)
 
-      pub held-low : v / 2 ^ w ≡ 0 → bucketOf s r ≡ holding w (rowsIn s) (set (ownOf s b) a v)
+      pub held-low : v / 2 ^ w ≡ 0 → asBucket s r ≡ holding w (rowsIn s) (set (ownOf s b) a v)
       held-low z = holds small (own-low ∙ low-levels w (rowsIn s) (firstOf s b) (b .marks) (uppersOf s b) a v z ∙ levels-are)
 
-      pub held-stay : Stays s (bucketOf s b) a v → bucketOf s r ≡ holding w (rowsIn s) (set (ownOf s b) a v)
-      held-stay e = holds small (own-low ∙ stay w (rowsIn s) (bucketOf s b) sound-own a v (k .place) (k .larger) (firstOf s b) (b .marks) (uppersOf s b) view e)
+      pub held-stay : Stays s (asBucket s b) a v → asBucket s r ≡ holding w (rowsIn s) (set (ownOf s b) a v)
+      held-stay e = holds small (own-low ∙ stay w (rowsIn s) (asBucket s b) sound-own a v (k .place) (k .larger) (firstOf s b) (b .marks) (uppersOf s b) view e)
 
     -- the levels above it change too: those of u became ls
     module _ (z : 0 < v / 2 ^ w) (u : Upper) (qu : u ≡ b .upper) (ls : List Level) (g : Grown s (s .uppers) 0 0 u ls (r .upper)) where
@@ -206,7 +206,7 @@ module _ (s : Shape) (b : Bucket) (four : length (b .upper .words) ≡ 4) (a v :
 
       pub held-on : r .marks ≡ byMark (bit (b .marks) a) (replaced 1 (b .marks) a 1) (b .marks)
           → ls ≡ byMark (bit (b .marks) a) (entering (rowsIn s) (uppersOf s b) (rank (b .marks) a) (v / 2 ^ w)) (raising (rowsIn s) (uppersOf s b) (rank (b .marks) a) (v / 2 ^ w))
-          → bucketOf s r ≡ holding w (rowsIn s) (set (ownOf s b) a v)
+          → asBucket s r ≡ holding w (rowsIn s) (set (ownOf s b) a v)
       held-on e h =
           holds small-on
           (three p e (sym (from-zero s (r .upper)) ∙ g .levels ∙ h) ∙ on-levels w (rowsIn s) (firstOf s b) (b .marks) (uppersOf s b) a v z ∙ levels-are)
@@ -227,7 +227,7 @@ module _ (s : Shape) (b : Bucket) (four : length (b .upper .words) ≡ 4) (a v :
           sound = subst (λ ls. T (soundLevels 1 (rowsIn s) (ones (b .marks)) ls)) (sym same-levels) sound-uppers;
         }
 
-    module _ (z : 0 < v / 2 ^ w) (room : T (hasRoom s b a v)) where
+    module _ (z : 0 < v / 2 ^ w) (room : T (roomFor s b a v)) where
       pub comes : bit (b .marks) a ≡ 0 → Comes s (s .uppers) 0 0 u (rank (b .marks) a) (v / 2 ^ w)
       comes e = record {
         number = ones (b .marks);

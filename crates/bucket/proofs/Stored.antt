@@ -20,7 +20,7 @@ use Rattle.model.proofs.Bridge.{first-words}
 use Rattle.shapes.specs.declared.Shape.{Shape}
 use Rattle.bucket.specs.declared.Bucket.{Bucket}
 use Rattle.shapes.specs.Shapes.{rowsFrom, rowsIn, entriesAt}
-use Rattle.bucket.specs.Views.{bucketOf}
+use Rattle.bucket.specs.Views.{asBucket}
 use Rattle.shapes.proofs.Shapes.{facts}
 use Rattle.growth.specs.Levels.{Fit, levelsFrom}
 
@@ -64,7 +64,7 @@ word-none m = omega arith
 -- ---- a bucket with no flag, no number and no spare bit is that of its levels
 
 pub from-own : (s : Shape) (b : Bucket) → Fit s → length (b .first) ≡ 16 → length (b .upper .words) ≡ 4 → Below (2 ^ 64) (b .first) → b .upper .packed < 2 ^ sum (markWidths (rowsIn s))
-    → fromLevels (s .width) (rowsIn s) (level (pack 64 (take (s .width) (b .first))) (b .marks) ∷ levelsFrom (s .uppers) s (b .upper .words) (b .upper .packed) 0) 0 0 ≡ bucketOf s b
+    → fromLevels (s .width) (rowsIn s) (level (pack 64 (take (s .width) (b .first))) (b .marks) ∷ levelsFrom (s .uppers) s (b .upper .words) (b .upper .packed) 0) 0 0 ≡ asBucket s b
 from-own s b f k l below h =
     let t = facts s (f .valid) in
     let one : unpack 64 (s .width) (pack 64 (take (s .width) (b .first))) ≡ take (s .width) (b .first) =

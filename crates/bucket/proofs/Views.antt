@@ -15,7 +15,7 @@ use Rattle.model.specs.Sound.{pairLevels, levelsOf}
 use Rattle.shapes.specs.declared.Shape.{Shape}
 use Rattle.bucket.specs.declared.Bucket.{Bucket}
 use Rattle.shapes.specs.Shapes.{rowsFrom, rowsIn, entriesAt}
-use Rattle.bucket.specs.Views.{bucketOf}
+use Rattle.bucket.specs.Views.{asBucket}
 use Rattle.shapes.proofs.Shapes.{facts}
 use Rattle.growth.specs.Levels.{Fit, levelsFrom}
 
@@ -37,7 +37,7 @@ from-view (suc (suc n)) s us g j c h l =
     (ap (λ ls. level (getD us j 0) (g % 2 ^ k) ∷ ls) (from-view (suc n) s us (g / 2 ^ k) (suc j) (c - k) (omega arith) (omega arith)))
 
 pub levels-view : (s : Shape) (b : Bucket) → Fit s → length (b .upper .words) ≡ 4
-    → level (pack 64 (take (s .width) (b .first))) (b .marks) ∷ levelsFrom (s .uppers) s (b .upper .words) (b .upper .packed) 0 ≡ levelsOf (rowsIn s) (bucketOf s b)
+    → level (pack 64 (take (s .width) (b .first))) (b .marks) ∷ levelsFrom (s .uppers) s (b .upper .words) (b .upper .packed) 0 ≡ levelsOf (rowsIn s) (asBucket s b)
 levels-view s b f e =
     let t = facts s (f .valid) in
     ap (λ ls. level (pack 64 (take (s .width) (b .first))) (b .marks) ∷ ls) (from-view (s .uppers) s (b .upper .words) (b .upper .packed) 0 40 (t .marks) (omega (arith, t .levels)))

@@ -13,7 +13,7 @@ use Rattle.model.specs.Sound.{levelsOf, ownCounts}
 use Rattle.shapes.specs.declared.Shape.{Shape}
 use Rattle.shapes.specs.Shapes.{rowsIn}
 use Rattle.bucket.specs.declared.Bucket.{Bucket}
-use Rattle.bucket.specs.Views.{bucketOf, ownOf}
+use Rattle.bucket.specs.Views.{asBucket, ownOf}
 use Rattle.growth.specs.Levels.{Fit}
 
 -- r is b with the part p of place a in level 1, of width w
@@ -32,11 +32,11 @@ pub record RaisesIn (s : Shape) (b : model.Bucket) (a v : ℕ) : Type 0 where
   pub plain : b .packed < 2 ^ sum (markWidths (rowsIn s))
 
 abbrev pub Raises : Shape → Bucket → ℕ → ℕ → Type 0
-Raises s b a v = RaisesIn s (bucketOf s b) a v
+Raises s b a v = RaisesIn s (asBucket s b) a v
 
 -- its levels have room for it
-abbrev pub hasRoom : Shape → Bucket → ℕ → ℕ → Bool
-hasRoom s b a v = not (crowded (s .width) (rowsIn s) (set (ownOf s b) a v))
+abbrev pub roomFor : Shape → Bucket → ℕ → ℕ → Bool
+roomFor s b a v = not (crowded (s .width) (rowsIn s) (set (ownOf s b) a v))
 
 -- what it has above level 1 stays
 abbrev pub Stays : Shape → model.Bucket → ℕ → ℕ → Type 0

@@ -11,12 +11,12 @@ use Rattle.shapes.specs.Shapes.{rowsIn}
 use Rattle.bucket.specs.declared.Bucket.{Bucket}
 
 -- the words of level 1 and of the upper levels that the shape has
-abbrev pub bucketOf : Shape → Bucket → model.Bucket
-bucketOf s b = record { first = take (s .width) (b .first); marks = b .marks; uppers = take (s .uppers) (b .upper .words); packed = b .upper .packed }
+abbrev pub asBucket : Shape → Bucket → model.Bucket
+asBucket s b = record { first = take (s .width) (b .first); marks = b .marks; uppers = take (s .uppers) (b .upper .words); packed = b .upper .packed }
 
 -- the 64 counts that its levels hold
 abbrev pub ownOf : Shape → Bucket → List ℕ
-ownOf s b = ownCounts (s .width) (rowsIn s) (bucketOf s b)
+ownOf s b = ownCounts (s .width) (rowsIn s) (asBucket s b)
 
 -- the bucket of this shape whose words begin at an offset
 abbrev pub bucketIn : Shape → List ℕ → ℕ → model.Bucket

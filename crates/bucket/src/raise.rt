@@ -8,8 +8,8 @@ ghost use lib.ListN.{set};
 ghost use Rattle.model.specs.Sound.{packedWord, upperMarks};
 ghost use Rattle.model.specs.Calls.{holding};
 ghost use Rattle.shapes.specs.Shapes.{rowsIn};
-ghost use Rattle.bucket.specs.Views.{bucketOf, ownOf};
-ghost use Rattle.bucket.specs.Raise.{Put, Raises, hasRoom};
+ghost use Rattle.bucket.specs.Views.{asBucket, ownOf};
+ghost use Rattle.bucket.specs.Raise.{Put, Raises, roomFor};
 
 impl Bucket {
     // The part of a place in level 1, of this width: it may cross two words. Who judged the bucket shows what these ask.
@@ -33,7 +33,7 @@ impl Bucket {
     // Whether the levels have room for a place to come to the value.
     pub fn room(self, shape: Shape, place: u64, value: u64) -> bool
         requires { ⌜ Raises shape self place value ⌝ }
-        ensures { λ r. ⌜ r ≡ hasRoom shape self place value ⌝ }
+        ensures { λ r. ⌜ r ≡ roomFor shape self place value ⌝ }
     {
         let high = value >> shape.width;
         if high == 0 {
@@ -63,8 +63,8 @@ impl Bucket {
 
     // The count at a place comes to the value, for which there is room.
     pub fn raise(self, shape: Shape, place: u64, value: u64) -> Self
-        requires { ⌜ Raises shape self place value × T (hasRoom shape self place value) ⌝ }
-        ensures { λ r. ⌜ bucketOf shape r ≡ holding (shape .width) (rowsIn shape) (set (ownOf shape self) place value) ⌝ }
+        requires { ⌜ Raises shape self place value × T (roomFor shape self place value) ⌝ }
+        ensures { λ r. ⌜ asBucket shape r ≡ holding (shape .width) (rowsIn shape) (set (ownOf shape self) place value) ⌝ }
     {
         let w = shape.width;
         let mut b = self.put(w, place, value % packed::pow2(w));

@@ -9,7 +9,7 @@ ghost use Rattle.model.specs.Lists.{splice};
 ghost use Rattle.model.specs.Shapes.{bucketSize};
 ghost use Rattle.model.specs.Walls.{bucketWords};
 ghost use Rattle.shapes.specs.Shapes.{rowsIn, Valid};
-ghost use Rattle.bucket.specs.Views.{bucketIn, bucketOf};
+ghost use Rattle.bucket.specs.Views.{bucketIn, asBucket};
 
 // n words of `from`, from start on, into `to` from at on. `take` and `store` show that both have as many.
 fn copy(to: &mut [u64], at: usize, from: &[u64], start: usize, n: usize)
@@ -27,7 +27,7 @@ impl Bucket {
     // Filled from the words at an offset, whatever it held. Who read the wall's header knows that the shape is valid and that the words are there.
     pub fn take(mut self, words: &[u64], at: usize, shape: Shape) -> Self
         requires { ⌜ Valid shape × (at + bucketSize (shape .width) (rowsIn shape) ≤ length (now words)) ⌝ }
-        ensures { λ r. ⌜ bucketOf shape r ≡ bucketIn shape (now (words .entry)) at ⌝ }
+        ensures { λ r. ⌜ asBucket shape r ≡ bucketIn shape (now (words .entry)) at ⌝ }
     {
         let width = shape.width as usize;
         let uppers = shape.uppers as usize;
@@ -48,7 +48,7 @@ impl Bucket {
     // Its caller took it out at the same offset.
     pub fn store(self, words: &mut [u64], at: usize, shape: Shape)
         requires { ⌜ Valid shape × (at + bucketSize (shape .width) (rowsIn shape) ≤ length (now words)) ⌝ }
-        ensures { λ _. ⌜ now (words .exit) ≡ splice (now (words .entry)) at (bucketWords (bucketOf shape self)) ⌝ }
+        ensures { λ _. ⌜ now (words .exit) ≡ splice (now (words .entry)) at (bucketWords (asBucket shape self)) ⌝ }
     {
         let width = shape.width as usize;
         let uppers = shape.uppers as usize;

@@ -26,7 +26,7 @@ use Rattle.model.proofs.Demand2.{increment-raises}
 use Rattle.model.proofs.Uses.{uses-encode, read-parts}
 use Rattle.model.proofs.Images.{image-call, image-past}
 use Rattle.demands.specs.DemandTwo.{Accepted}
-use Rattle.demands.specs.Layouts.{UsesLevel, below, part, roomFor, carriedIn, Layouts}
+use Rattle.demands.specs.Layouts.{UsesLevel, below, part, roomToCarry, carriedIn, Layouts}
 use Rattle.demands.proofs.Laid.{words-below, at-counts}
 
 levels : (ws : List ℕ) → Accepted ws → (i : ℕ) → i < bucketsIn (parse ws .header) → (a d : ℕ) → d < length (parse ws .header .rows)
@@ -92,10 +92,10 @@ module _ (ws : List ℕ) (y : ℕ) (ok : Accepted ws) (below-limit : parse ws .h
   unfolding noRoom
   crowds = ap (λ m. byMark m (noRoom v i a (count v y + 1)) false) e ∙ ap (λ n. crowded w rs (set os a (n + 1))) own-count
 
-  room : T (roomFor v i a) ↔ T (not (overflows v i a (count v y + 1)))
-  room = subst (λ x. T (roomFor v i a) ↔ T (not x)) (sym crowds) (room-crowded w rs wide (bucketAt v i) (s .each i li .levels) a la small)
+  room : T (roomToCarry v i a) ↔ T (not (overflows v i a (count v y + 1)))
+  room = subst (λ x. T (roomToCarry v i a) ↔ T (not x)) (sym crowds) (room-crowded w rs wide (bucketAt v i) (s .each i li .levels) a la small)
 
-  carried : increment ws y .number ≡ 0 → T (roomFor v i a) → bucketAt (parse (increment ws y .words)) i ≡ carriedIn v i a
+  carried : increment ws y .number ≡ 0 → T (roomToCarry v i a) → bucketAt (parse (increment ws y .words)) i ≡ carriedIn v i a
   unfolding ownAfter
   carried h t =
       let z : noRoom v i a (count v y + 1) ≡ false = sym (ap (λ m. byMark m (noRoom v i a (count v y + 1)) false) e) ∙ sym (T-false (overflows v i a (count v y + 1)) (room .0 t)) in

@@ -24,8 +24,8 @@ abbrev pub below : Wall → ℕ → ℕ
 below v d = start (allRows (v .header .width) (v .header .rows)) d
 
 -- the document's rule at place a of bucket i: whether the next level has room, and the bucket after one more
-abbrev pub roomFor : Wall → ℕ → ℕ → Bool
-roomFor v i a = hasRoom (allRows (v .header .width) (v .header .rows)) 64 (levelsOf (v .header .rows) (bucketAt v i)) a
+abbrev pub roomToCarry : Wall → ℕ → ℕ → Bool
+roomToCarry v i a = hasRoom (allRows (v .header .width) (v .header .rows)) 64 (levelsOf (v .header .rows) (bucketAt v i)) a
 
 abbrev pub carriedIn : Wall → ℕ → ℕ → Bucket
 carriedIn v i a = fromLevels (v .header .width) (v .header .rows) (incremented (allRows (v .header .width) (v .header .rows)) (levelsOf (v .header .rows) (bucketAt v i)) a) 0 0
@@ -37,9 +37,9 @@ part v i a d = partAt (allRows (v .header .width) (v .header .rows)) (levelsOf (
 -- how flow y of these words grows, its bucket having no flag: its levels have room exactly where the level that its counter would come into
 -- has an entry free; then one is added to the lowest part and carried, entries and marks moving together
 pub record Grows (ws : List ℕ) (y : ℕ) : Type 0 where
-  pub room : T (roomFor (parse ws) (bucketOf (parse ws .header) y) (placeOf (parse ws .header) y))
+  pub room : T (roomToCarry (parse ws) (bucketOf (parse ws .header) y) (placeOf (parse ws .header) y))
       ↔ T (not (overflows (parse ws) (bucketOf (parse ws .header) y) (placeOf (parse ws .header) y) (count (parse ws) y + 1)))
-  pub carried : increment ws y .number ≡ 0 → T (roomFor (parse ws) (bucketOf (parse ws .header) y) (placeOf (parse ws .header) y))
+  pub carried : increment ws y .number ≡ 0 → T (roomToCarry (parse ws) (bucketOf (parse ws .header) y) (placeOf (parse ws .header) y))
       → bucketAt (parse (increment ws y .words)) (bucketOf (parse ws .header) y) ≡ carriedIn (parse ws) (bucketOf (parse ws .header) y) (placeOf (parse ws .header) y)
 
 pub record Layouts : Type 0 where

@@ -24,7 +24,7 @@ use Rattle.uppers.specs.Judge.{verdict}
 use Rattle.fulls.specs.Fulls.{fullTests}
 use Rattle.uppers.proofs.Verdicts.{said-sound, said-not}
 use Rattle.sums.specs.Sums.{firstSum}
-use Rattle.uppers.specs.Uppers.{rowsBy, levelsBy, markBits, soundBy, sumBy, judged, Ahead}
+use Rattle.uppers.specs.Uppers.{rowsBy, levelsBy, marksBy, soundBy, sumBy, judged, Ahead}
 use Rattle.plain.specs.Plain.{bucketIn}
 use Rattle.plain.proofs.Soundness.{under, marks-sum, levels-same, packed-here, sum-here, sum-small}
 use Rattle.fulls.proofs.Gains.{own-over}
@@ -73,8 +73,8 @@ module _ (w n e v : ℕ) (ws : List ℕ) (at : ℕ) (h : at + w + 1 + n ≤ leng
   unfolding soundBy sumBy
   own-sum f own d =
       let k = said-sound levels (0 + sumBy n ws (at + w + 1) g e v (ones m1) * 2 ^ w) f in
-      let t : T (soundLevels 1 rs (ones m1) uppers && eqb (g / 2 ^ markBits n e) 0) = subst T (sym (k .0)) tt in
-      let l = and-tests (soundLevels 1 rs (ones m1) uppers) (eqb (g / 2 ^ markBits n e) 0) t in
+      let t : T (soundLevels 1 rs (ones m1) uppers && eqb (g / 2 ^ marksBy n e) 0) = subst T (sym (k .0)) tt in
+      let l = and-tests (soundLevels 1 rs (ones m1) uppers) (eqb (g / 2 ^ marksBy n e) 0) t in
       omega (arith, sum-here w n e v ws at h each (l .0), k .1)
 
   -- it has the flag, no spare bits, and its number is in use
@@ -95,17 +95,17 @@ module _ (w n e v : ℕ) (ws : List ℕ) (at : ℕ) (h : at + w + 1 + n ≤ leng
     unfolding soundBy
     facts-out t =
         let s = bucket-facts w rs total used b f t in
-        let m : g < 2 ^ markBits n e = subst₂ (λ y k. upperMarks y < 2 ^ k) here (marks-sum n e v) (s .marks) in
-        tests-and (soundLevels 1 rs (ones m1) uppers && eqb (g / 2 ^ markBits n e) 0) tests
-        (tests-and (soundLevels 1 rs (ones m1) uppers) (eqb (g / 2 ^ markBits n e) 0) (subst T same (sound-levels 0 (allRows w rs) 64 (levelsOf rs b) (s .levels))) (subst T (sym (eq-eqb (g / 2 ^ markBits n e) 0 (div-eq-of-lt m))) tt))
+        let m : g < 2 ^ marksBy n e = subst₂ (λ y k. upperMarks y < 2 ^ k) here (marks-sum n e v) (s .marks) in
+        tests-and (soundLevels 1 rs (ones m1) uppers && eqb (g / 2 ^ marksBy n e) 0) tests
+        (tests-and (soundLevels 1 rs (ones m1) uppers) (eqb (g / 2 ^ marksBy n e) 0) (subst T same (sound-levels 0 (allRows w rs) 64 (levelsOf rs b) (s .levels))) (subst T (sym (eq-eqb (g / 2 ^ marksBy n e) 0 (div-eq-of-lt m))) tt))
         (tests-all (fullTests os f total) (le→leb 1 (rank (f .moved) 64) (le-trans (le-of-eq (sym flag-set)) (s .some)), (every-of 64 (soundPlace os f) (s .places), (le→leb (sum (bucketCounts os f)) total (s .most), tt))))
 
     facts-in : T (levels && tests) → T (soundBucket w rs total used b f)
     unfolding soundBy
     facts-in t =
-        let u = and-tests (soundLevels 1 rs (ones m1) uppers && eqb (g / 2 ^ markBits n e) 0) tests t in
-        let l = and-tests (soundLevels 1 rs (ones m1) uppers) (eqb (g / 2 ^ markBits n e) 0) (u .0) in
-        let m : g < 2 ^ markBits n e = under g (markBits n e) (eqb→eq (g / 2 ^ markBits n e) 0 (l .1)) in
+        let u = and-tests (soundLevels 1 rs (ones m1) uppers && eqb (g / 2 ^ marksBy n e) 0) tests t in
+        let l = and-tests (soundLevels 1 rs (ones m1) uppers) (eqb (g / 2 ^ marksBy n e) 0) (u .0) in
+        let m : g < 2 ^ marksBy n e = under g (marksBy n e) (eqb→eq (g / 2 ^ marksBy n e) 0 (l .1)) in
         let a = all-tests (fullTests os f total) (u .1) in
         facts-bucket w rs total used b f (record {
           levels = levels-sound 0 (allRows w rs) 64 (levelsOf rs b) (subst T (sym same) (l .0));

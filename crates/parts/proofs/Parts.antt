@@ -17,7 +17,7 @@ use Rattle.model.proofs.Packing.{first-fits}
 use Rattle.shapes.specs.declared.Shape.{Shape}
 use Rattle.shapes.specs.Shapes.{rowsIn}
 use Rattle.bucket.specs.declared.Bucket.{Bucket}
-use Rattle.bucket.specs.Views.{bucketOf, bucketIn}
+use Rattle.bucket.specs.Views.{asBucket, bucketIn}
 use Rattle.bucket.specs.Raise.{Put, Raises, RaisesIn, Stays}
 use Rattle.bucket.proofs.Stored.{take-replaced}
 use Rattle.bucket.proofs.Stepping.{firstOf, held-stay}
@@ -31,12 +31,12 @@ left z ws at a v = splice ws at (bucketWords (holding (z .width) (rowsIn z) (set
 
 -- k is the bucket taken out, p the bucket with the new part q
 pub part-stored : (z : Shape) (ws : List ℕ) (at a v q : ℕ) (k p : Bucket) → Below (2 ^ 64) (k .first) → length (k .upper .words) ≡ 4
-    → Below (2 ^ 64) (p .first) × (length (p .first) ≡ 16) × (length (p .upper .words) ≡ 4) → bucketOf z k ≡ bucketIn z ws at → Put k (z .width) a q p → q ≡ v % 2 ^ z .width
-    → Asked z ws at a v → splice ws at (bucketWords (bucketOf z p)) ≡ left z ws at a v
+    → Below (2 ^ 64) (p .first) × (length (p .first) ≡ 16) × (length (p .upper .words) ≡ 4) → asBucket z k ≡ bucketIn z ws at → Put k (z .width) a q p → q ≡ v % 2 ^ z .width
+    → Asked z ws at a v → splice ws at (bucketWords (asBucket z p)) ≡ left z ws at a v
 part-stored z ws at a v q k p below four t e put eq asked =
     let w : ℕ = z .width in
     let r : Raises z k a v = subst (λ (b : model.Bucket). RaisesIn z b a v) (sym e) (asked .1) in
-    let y : Stays z (bucketOf z k) a v = subst (λ (b : model.Bucket). Stays z b a v) (sym e) (asked .2) in
+    let y : Stays z (asBucket z k) a v = subst (λ (b : model.Bucket). Stays z b a v) (sym e) (asked .2) in
     let f : firstOf z p ≡ replaced w (firstOf z k) a (v % 2 ^ w) =
     take-replaced (k .first) (p .first) w w a (v % 2 ^ w) below (t .0) (first-fits w a (r .place)) (mod-lt v (pow-pos w)) (rw eq at (put .first)) in
     ap (λ b. splice ws at (bucketWords b))

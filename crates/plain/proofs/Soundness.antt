@@ -31,7 +31,7 @@ use Rattle.uppers.specs.Judge.{verdict, sumLevels}
 use Rattle.uppers.proofs.Verdicts.{said-sound, said-not}
 use Rattle.uppers.proofs.Judging.{sum-most}
 use Rattle.sums.specs.Sums.{firstSum}
-use Rattle.uppers.specs.Uppers.{rowsBy, levelsBy, markBits, soundBy, sumBy, judged, Ahead, marksOf}
+use Rattle.uppers.specs.Uppers.{rowsBy, levelsBy, marksBy, soundBy, sumBy, judged, Ahead, marksOf}
 use Rattle.plain.specs.Plain.{bucketIn}
 use Rattle.plain.proofs.Views.{bucket-here, levels-here}
 
@@ -59,8 +59,8 @@ first-most w ws = sum-most w 64 64 (pack 64 (take w ws)) (le-refl 64)
 pub under : (x k : ℕ) → x / 2 ^ k ≡ 0 → x < 2 ^ k
 under x k e = let z : x / 2 ^ k * 2 ^ k ≡ 0 = ap (λ q. q * 2 ^ k) e ∙ zero-mul (2 ^ k) in omega (arith, split x k, mod-lt x (pow-pos k))
 
-pub marks-sum : (n e v : ℕ) → sum (markWidths (rowsBy n e v)) ≡ markBits n e
-unfolding rowsBy markBits
+pub marks-sum : (n e v : ℕ) → sum (markWidths (rowsBy n e v)) ≡ marksBy n e
+unfolding rowsBy marksBy
 marks-sum zero e v = refl
 marks-sum (suc zero) e v = refl
 marks-sum (suc (suc n)) e v = ap (λ k. e % 256 + k) (marks-sum (suc n) (e / 256) (v / 256))
@@ -156,18 +156,18 @@ module _ (w n e v : ℕ) (ws : List ℕ) (at : ℕ) (h : at + w + 1 + n ≤ leng
     plain-facts t =
         let s = bucket-facts w rs total used b emptyFull t in
         let q : sum (bucketCounts (ownCounts w rs b) emptyFull) ≡ sum (ownCounts w rs b) = ap sum (counts-none (ownCounts w rs b) (length-own w rs b)) in
-        let m : g < 2 ^ markBits n e = subst₂ (λ y k. upperMarks y < 2 ^ k) packed-here (marks-sum n e v) (s .marks) in
-        tests-and (soundLevels 1 rs (ones m1) uppers && eqb (g / 2 ^ markBits n e) 0) (leb (sum (ownCounts w rs b)) total)
-        (tests-and (soundLevels 1 rs (ones m1) uppers) (eqb (g / 2 ^ markBits n e) 0) (subst T levels-same (sound-levels 0 (allRows w rs) 64 (levelsOf rs b) (s .levels))) (subst T (sym (eq-eqb (g / 2 ^ markBits n e) 0 (div-eq-of-lt m))) tt))
+        let m : g < 2 ^ marksBy n e = subst₂ (λ y k. upperMarks y < 2 ^ k) packed-here (marks-sum n e v) (s .marks) in
+        tests-and (soundLevels 1 rs (ones m1) uppers && eqb (g / 2 ^ marksBy n e) 0) (leb (sum (ownCounts w rs b)) total)
+        (tests-and (soundLevels 1 rs (ones m1) uppers) (eqb (g / 2 ^ marksBy n e) 0) (subst T levels-same (sound-levels 0 (allRows w rs) 64 (levelsOf rs b) (s .levels))) (subst T (sym (eq-eqb (g / 2 ^ marksBy n e) 0 (div-eq-of-lt m))) tt))
         (le→leb (sum (ownCounts w rs b)) total (le-trans (le-of-eq (sym q)) (s .most)))
 
     facts-plain : T (soundBy n ws (at + w + 1) g e v (ones m1) && leb (sum (ownCounts w rs b)) total) → T (soundBucket w rs total used b emptyFull)
     unfolding soundBy
     facts-plain t =
-        let u = and-tests (soundLevels 1 rs (ones m1) uppers && eqb (g / 2 ^ markBits n e) 0) (leb (sum (ownCounts w rs b)) total) t in
-        let l = and-tests (soundLevels 1 rs (ones m1) uppers) (eqb (g / 2 ^ markBits n e) 0) (u .0) in
+        let u = and-tests (soundLevels 1 rs (ones m1) uppers && eqb (g / 2 ^ marksBy n e) 0) (leb (sum (ownCounts w rs b)) total) t in
+        let l = and-tests (soundLevels 1 rs (ones m1) uppers) (eqb (g / 2 ^ marksBy n e) 0) (u .0) in
         let q : sum (bucketCounts (ownCounts w rs b) emptyFull) ≡ sum (ownCounts w rs b) = ap sum (counts-none (ownCounts w rs b) (length-own w rs b)) in
-        let m : g < 2 ^ markBits n e = under g (markBits n e) (eqb→eq (g / 2 ^ markBits n e) 0 (l .1)) in
+        let m : g < 2 ^ marksBy n e = under g (marksBy n e) (eqb→eq (g / 2 ^ marksBy n e) 0 (l .1)) in
         let small : b .packed < 2 ^ 40 = subst (λ y. y < 2 ^ 40) (sym packed-here) low in
         let fl : flag b ≡ 0 = omega (arith, small) in
         let nu : fullNumber b ≡ 0 = omega (arith, small) in
@@ -197,8 +197,8 @@ module _ (w n e v : ℕ) (ws : List ℕ) (at : ℕ) (h : at + w + 1 + n ≤ leng
     unfolding soundBy sumBy
     sound-within {y} f =
         let k = said-sound (soundBy n ws (at + w + 1) g e v (ones m1)) (0 + sumBy n ws (at + w + 1) g e v (ones m1) * 2 ^ w) (ap verdictHere marks-low ∙ f) in
-        let t : T (soundLevels 1 rs (ones m1) uppers && eqb (g / 2 ^ markBits n e) 0) = subst T (sym (k .0)) tt in
-        let l = and-tests (soundLevels 1 rs (ones m1) uppers) (eqb (g / 2 ^ markBits n e) 0) t in
+        let t : T (soundLevels 1 rs (ones m1) uppers && eqb (g / 2 ^ marksBy n e) 0) = subst T (sym (k .0)) tt in
+        let l = and-tests (soundLevels 1 rs (ones m1) uppers) (eqb (g / 2 ^ marksBy n e) 0) t in
         let d : sum (ownCounts w rs b) ≡ y + firstSum w (drop at ws) = omega (arith, sum-here (l .0), k .1) in
         sym (sound-here ∙ rw (k .0, d))
 
@@ -214,8 +214,8 @@ module _ (w n e v : ℕ) (ws : List ℕ) (at : ℕ) (h : at + w + 1 + n ≤ leng
       unfolding soundBy sumBy
       sum-weighed =
           let k = said-sound (soundBy n ws (at + w + 1) g e v (ones m1)) (0 + sumBy n ws (at + w + 1) g e v (ones m1) * 2 ^ w) (ap verdictHere marks-low ∙ f) in
-          let t : T (soundLevels 1 rs (ones m1) uppers && eqb (g / 2 ^ markBits n e) 0) = subst T (sym (k .0)) tt in
-          let l = and-tests (soundLevels 1 rs (ones m1) uppers) (eqb (g / 2 ^ markBits n e) 0) t in
+          let t : T (soundLevels 1 rs (ones m1) uppers && eqb (g / 2 ^ marksBy n e) 0) = subst T (sym (k .0)) tt in
+          let l = and-tests (soundLevels 1 rs (ones m1) uppers) (eqb (g / 2 ^ marksBy n e) 0) t in
           omega (arith, sum-here (l .0), k .1)
 
       test-weighed : leb own total ≡ soundBucket w rs total used b emptyFull

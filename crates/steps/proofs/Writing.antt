@@ -28,7 +28,7 @@ use Rattle.shapes.specs.declared.Shape.{Shape}
 use Rattle.shapes.specs.Shapes.{rowsIn, shapeOf, Valid}
 use Rattle.shapes.proofs.Shapes.{table-rows}
 use Rattle.bucket.specs.declared.Bucket as code
-use Rattle.bucket.specs.Views.{bucketOf, bucketIn, ownOf}
+use Rattle.bucket.specs.Views.{asBucket, bucketIn, ownOf}
 use Rattle.growth.specs.Levels.{Fit}
 use Rattle.bucket.specs.Raise.{RaisesIn, Stays}
 use Rattle.bucket.proofs.Stepping.{roomy}
@@ -186,8 +186,8 @@ module _ (ws : List ℕ) (v : Wall) (i a c : ℕ) (r : Ready ws v i a c) where
     stays-room e z = room-at ∙ roomy s b a c (raises e) z
 
     -- the flag and the number go in
-    pub over-of : (k x : code.Bucket) (n : ℕ) → bucketOf s k ≡ b → x .first ≡ k .first → x .marks ≡ k .marks → x .upper .words ≡ k .upper .words → x .upper .packed ≡ packedWord (upperMarks (k .upper .packed)) 1 n
-        → bucketOf s x ≡ overflowed b n
+    pub over-of : (k x : code.Bucket) (n : ℕ) → asBucket s k ≡ b → x .first ≡ k .first → x .marks ≡ k .marks → x .upper .words ≡ k .upper .words → x .upper .packed ≡ packedWord (upperMarks (k .upper .packed)) 1 n
+        → asBucket s x ≡ overflowed b n
     unfolding overflowed
     over-of k x n e f m u p = rw (f, m, u, p) (ap (λ (y : Bucket). overflowed y n) e)
 

@@ -22,7 +22,7 @@ use Rattle.uppers.specs.declared.Judged.the-variants.{Sound, Unsound}
 use Rattle.uppers.specs.Judge.{verdict, filled, sumLevels}
 use Rattle.uppers.proofs.Verdicts.{said-sound, said-not}
 use Rattle.uppers.proofs.Judging.{sum-most}
-use Rattle.uppers.specs.Uppers.{rowsBy, levelsBy, markBits, soundBy, sumBy, judged, zeroWords, Ahead}
+use Rattle.uppers.specs.Uppers.{rowsBy, levelsBy, marksBy, soundBy, sumBy, judged, zeroWords, Ahead}
 
 -- ---- tests
 
@@ -90,7 +90,7 @@ module _ (ws : List ℕ) (at g e w n : ℕ) where
 
   -- the last one
   last-sound : n ≤ e % 256 → soundBy 1 ws at g e w n ≡ filled (w % 256) n (getD ws at 0) 0 && eqb g 0
-  unfolding soundBy soundLevels rowsBy levelsBy markBits filled
+  unfolding soundBy soundLevels rowsBy levelsBy marksBy filled
   last-sound h = rw (le-leb n (e % 256) h, rank-none n, div-one, and-true)
 
   last-sum : sumBy 1 ws at g e w n ≡ sum (unpack (w % 256) n (getD ws at 0))
@@ -101,10 +101,10 @@ module _ (ws : List ℕ) (at g e w n : ℕ) where
   on-sound : (left : ℕ) → 1 < left → n ≤ e % 256
       → soundBy left ws at g e w n
       ≡ filled (w % 256) n (getD ws at 0) (g % 2 ^ (e % 256)) && soundBy (left - 1) ws (at + 1) (g / 2 ^ (e % 256)) (e / 256) (w / 256) (rank (g % 2 ^ (e % 256)) n)
-  unfolding soundBy soundLevels rowsBy levelsBy markBits filled
+  unfolding soundBy soundLevels rowsBy levelsBy marksBy filled
   on-sound zero h k = absurd (omega arith)
   on-sound (suc zero) h k = absurd (omega arith)
-  on-sound (suc (suc l)) h k = rw (le-leb n (e % 256) k, sub-one, add-one, ← shr-shr g (e % 256) (markBits (suc l) (e / 256)), regroup)
+  on-sound (suc (suc l)) h k = rw (le-leb n (e % 256) k, sub-one, add-one, ← shr-shr g (e % 256) (marksBy (suc l) (e / 256)), regroup)
 
   on-sum : (left : ℕ) → 1 < left
       → sumBy left ws at g e w n
@@ -133,7 +133,7 @@ module _ (ws : List ℕ) (at g e w n t s : ℕ) where
   alone-sum m f = sym (said-sound (filled (w % 256) n (getD ws at 0) m) (sum (unpack (w % 256) n (getD ws at 0))) f .1)
 
   pub last-high : 0 < g → Unsound ≡ judged 1 ws at g e w n t s
-  unfolding soundBy markBits
+  unfolding soundBy marksBy
   last-high h = rw (div-one, some g h, and-false)
 
   module _ (z : g ≡ 0) (k : n ≤ e % 256) where

@@ -27,14 +27,14 @@ levelsBy zero ws at g e = []
 levelsBy (suc n) ws at g e = level (getD ws at 0) (marksOf n (e % 256) g) ∷ levelsBy n ws (suc at) (g / 2 ^ (e % 256)) (e / 256)
 
 -- the bits of their marks
-unfoldable pub markBits : ℕ → ℕ → ℕ
-markBits zero e = 0
-markBits (suc zero) e = 0
-markBits (suc (suc n)) e = e % 256 + markBits (suc n) (e / 256)
+unfoldable pub marksBy : ℕ → ℕ → ℕ
+marksBy zero e = 0
+marksBy (suc zero) e = 0
+marksBy (suc (suc n)) e = e % 256 + marksBy (suc n) (e / 256)
 
 -- the levels are sound with n entries of the first used, and g has nothing above their marks
 unfoldable pub soundBy : ℕ → List ℕ → ℕ → ℕ → ℕ → ℕ → ℕ → Bool
-soundBy left ws at g e w n = soundLevels 1 (rowsBy left e w) n (levelsBy left ws at g e) && eqb (g / 2 ^ markBits left e) 0
+soundBy left ws at g e w n = soundLevels 1 (rowsBy left e w) n (levelsBy left ws at g e) && eqb (g / 2 ^ marksBy left e) 0
 
 unfoldable pub sumBy : ℕ → List ℕ → ℕ → ℕ → ℕ → ℕ → ℕ → ℕ
 sumBy left ws at g e w n = sumLevels (rowsBy left e w) n (levelsBy left ws at g e)
@@ -53,10 +53,10 @@ zeroWords zero ws at = true
 zeroWords (suc n) ws at = eqb (getD ws at 0) 0 && zeroWords n ws (suc at)
 
 -- what a walk over n levels from weight t on asks of the shape: a level that is not the last has marks in a word, and L stays within a word
-abbrev pub Marked : ℕ → ℕ → Type 0
-Marked zero k = Unit {0}
-Marked (suc n) k = k < 64
+abbrev pub MarksFit : ℕ → ℕ → Type 0
+MarksFit zero k = Unit {0}
+MarksFit (suc n) k = k < 64
 
 abbrev pub Ahead : ℕ → ℕ → ℕ → ℕ → Type 0
 Ahead zero e w t = Unit {0}
-Ahead (suc n) e w t = (1 ≤ w % 256) × (w % 256 ≤ 16) × (t + w % 256 ≤ 47) × Marked n (e % 256) × Ahead n (e / 256) (w / 256) (t + w % 256)
+Ahead (suc n) e w t = (1 ≤ w % 256) × (w % 256 ≤ 16) × (t + w % 256 ≤ 47) × MarksFit n (e % 256) × Ahead n (e / 256) (w / 256) (t + w % 256)

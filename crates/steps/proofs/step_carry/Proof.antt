@@ -1,7 +1,7 @@
 use Rattle.steps.proofs.Writing.{shape-fits, inside, lies, raises, room-found, none-found, over-of, held-of, step-held, step-twelve, step-over}
 use Rattle.header.proofs.Places.{open-good, open-known, open-limits, full-within}
 use Rattle.bucket.specs.Raise.{RaisesIn}
-use Rattle.bucket.specs.Views.{bucketOf}
+use Rattle.bucket.specs.Views.{asBucket}
 use Rattle.shapes.specs.Shapes.{rowsIn}
 use Rattle.answer.proofs.Said.{said}
 use Rattle.model.specs.Calls.{holding}
@@ -88,7 +88,7 @@ room-requires c κs =
     let es = c .before .before .before .of .ensures in
     let at = c .before .before .before .before .bucket-at .result in
     let q = c .before .before .before .before .bucket-at .ensures in
-    let k : bucketOf z (c .take .result) ≡ bucketAt (parse ws) i = c .take .ensures ∙ lies ws v i a n r z es at q in
+    let k : asBucket z (c .take .result) ≡ bucketAt (parse ws) i = c .take .ensures ∙ lies ws v i a n r z es at q in
     subst (λ (b : model.Bucket). RaisesIn z b a n) (sym k) (raises ws v i a n r z es (s .pre .1))
 
 raise-requires : tie.Need-raise-requires
@@ -104,7 +104,7 @@ raise-requires c κs =
     let es = c .before .before .before .before .before .of .ensures in
     let at = c .before .before .before .before .before .before .bucket-at .result in
     let q = c .before .before .before .before .before .before .bucket-at .ensures in
-    let k : bucketOf z (c .before .before .take .result) ≡ bucketAt (parse ws) i = c .before .before .take .ensures ∙ lies ws v i a n r z es at q in
+    let k : asBucket z (c .before .before .take .result) ≡ bucketAt (parse ws) i = c .before .before .take .ensures ∙ lies ws v i a n r z es at q in
     (subst (λ (b : model.Bucket). RaisesIn z b a n) (sym k) (raises ws v i a n r z es (s .pre .1)), subst T (c .before .room .ensures) (subst T (sym (c .if1 .taken)) tt))
 
 store-requires : tie.Need-store-requires
@@ -153,10 +153,10 @@ returns c =
     let es = c .before .before .before .before .before .before .before .before .before .before .before .before .before .before .before .of .ensures in
     let at = c .before .before .before .before .before .before .before .before .before .before .before .before .before .before .before .before .bucket-at .result in
     let q = c .before .before .before .before .before .before .before .before .before .before .before .before .before .before .before .before .bucket-at .ensures in
-    let k : bucketOf z (c .before .before .before .before .before .before .before .before .before .before .before .before .take .result) ≡ bucketAt (parse ws) i = c .before .before .before .before .before .before .before .before .before .before .before .before .take .ensures ∙ lies ws v i a n r z es at q in
+    let k : asBucket z (c .before .before .before .before .before .before .before .before .before .before .before .before .take .result) ≡ bucketAt (parse ws) i = c .before .before .before .before .before .before .before .before .before .before .before .before .take .ensures ∙ lies ws v i a n r z es at q in
     said (c .done .result) 0 n (c .before .before .before .put-totals .last .0) (c .done .ensures) ∙ ap (λ (x : List ℕ). record { number = 0; value = n; words = x }) (c .before .before .before .put-totals .ensures)
-    ∙ step-held ws v i a n r (s .args .total) (c .before .before .before .before .before .before .before .before .before .before .before .before .before .before .before .before .before .slice-known .given 0 .fits) (c .before .before .before .before .before .before .before .store .last .1 .0) at (bucketOf z (c .before .before .before .before .before .before .before .before .before .raise .result)) (s .pre .1) (room-found ws v i a n r z es (c .before .before .before .before .before .before .before .before .before .before .before .room .result) (c .before .before .before .before .before .before .before .before .before .before .before .room .ensures ∙ ap (λ (b : model.Bucket). not (crowded (z .width) (rowsIn z) (set (ownCounts (z .width) (rowsIn z) b) a n))) k) (c .before .before .before .before .before .before .before .before .before .before .if1 .taken)) q
-    (held-of ws v i a n r z es (bucketOf z (c .before .before .before .before .before .before .before .before .before .raise .result)) (c .before .before .before .before .before .before .before .before .before .raise .ensures ∙ ap (λ (b : model.Bucket). holding (z .width) (rowsIn z) (set (ownCounts (z .width) (rowsIn z) b) a n)) k)) (c .before .before .before .before .before .before .before .store .ensures)
+    ∙ step-held ws v i a n r (s .args .total) (c .before .before .before .before .before .before .before .before .before .before .before .before .before .before .before .before .before .slice-known .given 0 .fits) (c .before .before .before .before .before .before .before .store .last .1 .0) at (asBucket z (c .before .before .before .before .before .before .before .before .before .raise .result)) (s .pre .1) (room-found ws v i a n r z es (c .before .before .before .before .before .before .before .before .before .before .before .room .result) (c .before .before .before .before .before .before .before .before .before .before .before .room .ensures ∙ ap (λ (b : model.Bucket). not (crowded (z .width) (rowsIn z) (set (ownCounts (z .width) (rowsIn z) b) a n))) k) (c .before .before .before .before .before .before .before .before .before .before .if1 .taken)) q
+    (held-of ws v i a n r z es (asBucket z (c .before .before .before .before .before .before .before .before .before .raise .result)) (c .before .before .before .before .before .before .before .before .before .raise .ensures ∙ ap (λ (b : model.Bucket). holding (z .width) (rowsIn z) (set (ownCounts (z .width) (rowsIn z) b) a n)) k)) (c .before .before .before .before .before .before .before .store .ensures)
 
 refused-requires : tie.Need-refused-requires
 refused-requires c κs = search needs
@@ -177,7 +177,7 @@ returns-2 c =
     let es = c .before .before .before .before .before .before .before .before .of .ensures in
     let at = c .before .before .before .before .before .before .before .before .before .bucket-at .result in
     let q = c .before .before .before .before .before .before .before .before .before .bucket-at .ensures in
-    let k : bucketOf z (c .before .before .before .before .before .take .result) ≡ bucketAt (parse ws) i = c .before .before .before .before .before .take .ensures ∙ lies ws v i a n r z es at q in
+    let k : asBucket z (c .before .before .before .before .before .take .result) ≡ bucketAt (parse ws) i = c .before .before .before .before .before .take .ensures ∙ lies ws v i a n r z es at q in
     said (c .refused .result) 12 0 ws (c .refused .ensures)
     ∙ step-twelve ws v i a n r (s .args .total) (c .before .before .before .before .before .before .before .before .before .before .slice-known .given 0 .fits) (s .pre .1) (none-found ws v i a n r z es (c .before .before .before .before .room .result) (c .before .before .before .before .room .ensures ∙ ap (λ (b : model.Bucket). not (crowded (z .width) (rowsIn z) (set (ownCounts (z .width) (rowsIn z) b) a n))) k) (c .before .before .before .if1 .left)) (c .before .if2 .taken)
 
@@ -266,10 +266,10 @@ returns-3 c =
     let es = c .before .before .before .before .before .before .before .before .before .before .before .before .before .before .before .before .before .before .before .before .before .before .before .of .ensures in
     let at = c .before .before .before .before .before .before .before .before .before .before .before .before .before .before .before .before .before .before .before .before .before .before .before .before .bucket-at .result in
     let q = c .before .before .before .before .before .before .before .before .before .before .before .before .before .before .before .before .before .before .before .before .before .before .before .before .bucket-at .ensures in
-    let k : bucketOf z (c .before .before .before .before .before .before .before .before .before .before .before .before .before .before .before .before .before .before .before .before .take .result) ≡ bucketAt (parse ws) i = c .before .before .before .before .before .before .before .before .before .before .before .before .before .before .before .before .before .before .before .before .take .ensures ∙ lies ws v i a n r z es at q in
+    let k : asBucket z (c .before .before .before .before .before .before .before .before .before .before .before .before .before .before .before .before .before .before .before .before .take .result) ≡ bucketAt (parse ws) i = c .before .before .before .before .before .before .before .before .before .before .before .before .before .before .before .before .before .before .before .before .take .ensures ∙ lies ws v i a n r z es at q in
     let y = c .before .before .before .before .before .before .before .before .before .before .before .before .before .before .before .overflow in
     said (c .done2 .result) 0 n (c .before .before .before .put-totals2 .last .0) (c .done2 .ensures) ∙ ap (λ (x : List ℕ). record { number = 0; value = n; words = x }) (c .before .before .before .put-totals2 .ensures)
-    ∙ step-over ws v i a n r (s .args .total) (c .before .before .before .before .before .before .before .before .before .before .before .before .before .before .before .before .before .before .before .before .before .before .before .before .before .slice-known .given 0 .fits) (c .before .before .before .before .before .before .before .before .before .before .before .before .before .store2 .last .1 .0) (c .before .before .before .before .before .before .before .before .move-first .last .0) at (c .before .before .before .before .before .before .before .before .before .full-at .result) (bucketOf z (y .result)) (s .pre .1) (none-found ws v i a n r z es (c .before .before .before .before .before .before .before .before .before .before .before .before .before .before .before .before .before .before .before .room .result) (c .before .before .before .before .before .before .before .before .before .before .before .before .before .before .before .before .before .before .before .room .ensures ∙ ap (λ (b : model.Bucket). not (crowded (z .width) (rowsIn z) (set (ownCounts (z .width) (rowsIn z) b) a n))) k) (c .before .before .before .before .before .before .before .before .before .before .before .before .before .before .before .before .before .before .if1 .left)) (c .before .before .before .before .before .before .before .before .before .before .before .before .before .before .before .before .if2 .left) q
+    ∙ step-over ws v i a n r (s .args .total) (c .before .before .before .before .before .before .before .before .before .before .before .before .before .before .before .before .before .before .before .before .before .before .before .before .before .slice-known .given 0 .fits) (c .before .before .before .before .before .before .before .before .before .before .before .before .before .store2 .last .1 .0) (c .before .before .before .before .before .before .before .before .move-first .last .0) at (c .before .before .before .before .before .before .before .before .before .full-at .result) (asBucket z (y .result)) (s .pre .1) (none-found ws v i a n r z es (c .before .before .before .before .before .before .before .before .before .before .before .before .before .before .before .before .before .before .before .room .result) (c .before .before .before .before .before .before .before .before .before .before .before .before .before .before .before .before .before .before .before .room .ensures ∙ ap (λ (b : model.Bucket). not (crowded (z .width) (rowsIn z) (set (ownCounts (z .width) (rowsIn z) b) a n))) k) (c .before .before .before .before .before .before .before .before .before .before .before .before .before .before .before .before .before .before .if1 .left)) (c .before .before .before .before .before .before .before .before .before .before .before .before .before .before .before .before .if2 .left) q
     (over-of ws v i a n r z es (c .before .before .before .before .before .before .before .before .before .before .before .before .before .before .before .before .before .before .before .before .take .result) (y .result) (v .used) k (y .ensures .0) (y .ensures .1) (y .ensures .2) (y .ensures .3)) (c .before .before .before .before .before .before .before .before .before .before .before .before .before .store2 .ensures) (c .before .before .before .before .before .before .before .before .before .full-at .ensures) (c .before .before .before .before .before .before .before .before .move-first .ensures)
 
 pub step-carry-spec : {M : Type 1} → statement M
