@@ -7,8 +7,6 @@ use lib.Dec.{ltb}
 use Rattle.io.specs.Digits.{digits}
 use Rattle.model.specs.Lists.{choose}
 
--- ---- bytes
-
 -- the bytes of a text, each of whose characters is one byte
 abbrev pub bytesOf : String → List ℕ
 bytesOf none = []
@@ -20,15 +18,18 @@ space = bytesOf " "
 abbrev pub newline : List ℕ
 newline = bytesOf "\n"
 
--- the fewest digits that hold n, k or more, where one of the next f is enough
+-- ---- numbers
+
+-- the fewest digits that hold n, of k to k + f
 abbrev pub placesFrom : ℕ → ℕ → ℕ → ℕ
 placesFrom zero k n = k
 placesFrom (suc f) k n = choose (ltb n (10 ^ k)) k (placesFrom f (suc k) n)
 
--- n in decimal, without leading zeros: the kit's digits, as few as hold n
+-- n has at most n + 1 digits
 unfoldable pub places : ℕ → ℕ
 places n = placesFrom n 1 n
 
+-- n in decimal, without leading zeros
 unfoldable pub decimal : ℕ → List ℕ
 decimal n = digits 10 (places n) n
 

@@ -1,8 +1,7 @@
 use answer::Answer;
 ghost use mathlib.Core.Path.{_≡_};
-ghost use mathlib.Core.List.{[], _∷_, _++_};
-ghost use Prim.Native.Nat.{_<_};
-ghost use lib.ListN.{getD, length};
+ghost use mathlib.Core.List.{_++_};
+ghost use lib.ListN.{getD};
 ghost use Rattle.model.specs.Walls.{readHeader};
 ghost use Rattle.texts.specs.Texts.{answerLine, badLine, decimal, totalLine};
 ghost use Rattle.texts.specs.Writing.{Room, Wrote};
