@@ -5,7 +5,7 @@ use Prim.Native.Nat.{ℕ, _+_, _<_}
 use lib.Dec.{lit<}
 use lib.ListN.{getD}
 use Rattle.model.specs.Lists.{byMark}
-use Rattle.model.specs.Walls.{Full, Wall, bucketsIn, flatten, parse, emptyFull}
+use Rattle.model.specs.Walls.{Full, Wall, bucketsIn, withTotals, flatten, parse, emptyFull}
 use Rattle.model.specs.Sound.{flag, fullNumber, movedAt, bucketAt, fullFor, count}
 use Rattle.model.specs.Calls.{Clear, Outcome, firstMet, bucketRefusals, stepRefusals, raisedBy, lookup, increment}
 use Rattle.model.proofs.Lists.{below-at}
@@ -52,7 +52,16 @@ agree-plain ws us ok good a =
 raises : (ws : List ℕ) (y : ℕ) → Accepted ws → increment ws y .number ≡ 0 → Raised ws y (increment ws y)
 raises ws y ok e =
     let r = increment-raises ws y ok e in
-    record { value = r .value; here = r .here; there = r .there; header = r .header; accepted = r .accepted; used = r .used; own = r .own; own-full = r .own-full; others = r .others }
+    record {
+      value = r .value;
+      here = r .here;
+      there = r .there;
+      header = r .header ∙ ap (withTotals (parse ws .header) (parse ws .header .total + 1)) (r .used);
+      accepted = r .accepted;
+      own = r .own;
+      own-full = r .own-full;
+      others = r .others;
+    }
 
 own-reads : (ws : List ℕ) (y : ℕ) → Clear (bucketRefusals ws y) → lookup ws y ≡ record { number = 0; value = count (parse ws) y; words = ws }
 unfolding lookup

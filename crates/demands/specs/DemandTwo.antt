@@ -1,6 +1,7 @@
 -- Demand 2: lookup and increment do exactly what the scheme and the layout say.
 use mathlib.Core.Logic.{_≢_}
 use mathlib.Core.Path.{_≡_}
+use mathlib.Core.Bool.{Bool}
 use mathlib.Core.List.{List, [], _∷_, _++_}
 use Prim.Native.Nat.{ℕ, _+_, _^_, _<_}
 use Rattle.model.specs.Lists.{oneIf}
@@ -18,6 +19,17 @@ abbrev pub Words : List ℕ → Type 0
 Words [] = Unit {0}
 Words (w ∷ ws) = (w < 2 ^ 64) × Words ws
 
+-- the bucket of flow y and its place there
+abbrev pub bucketFor : List ℕ → ℕ → ℕ
+bucketFor ws y = bucketOf (parse ws .header) y
+
+abbrev pub placeFor : List ℕ → ℕ → ℕ
+placeFor ws y = placeOf (parse ws .header) y
+
+-- one more of flow y has no room in its bucket, which has no flag
+abbrev pub overflowsAt : List ℕ → ℕ → Bool
+overflowsAt ws y = overflows (parse ws) (bucketFor ws y) (placeFor ws y) (count (parse ws) y + 1)
+
 -- what an accepted increment of flow y leaves of a wall that the check accepts: one count and the total one more, every other count as it
 -- was, and a wall that the check accepts; U one more exactly where the bucket must overflow; the flow's bucket and its full-size bucket as
 -- the step makes them, and every other bucket and its full-size bucket as they were
@@ -25,12 +37,11 @@ pub record Raised (ws : List ℕ) (y : ℕ) (r : Outcome) : Type 0 where
   pub value : r .value ≡ count (parse ws) y + 1
   pub here : count (parse (r .words)) y ≡ count (parse ws) y + 1
   pub there : (z : ℕ) → z < flows (parse ws .header) → z ≢ y → count (parse (r .words)) z ≡ count (parse ws) z
-  pub header : parse (r .words) .header ≡ withTotals (parse ws .header) (parse ws .header .total + 1) (parse (r .words) .header .used)
+  pub header : parse (r .words) .header ≡ withTotals (parse ws .header) (parse ws .header .total + 1) (parse ws .header .used + oneIf (overflowsAt ws y))
   pub accepted : Accepted (r .words)
-  pub used : parse (r .words) .header .used ≡ parse ws .header .used + oneIf (overflows (parse ws) (bucketOf (parse ws .header) y) (placeOf (parse ws .header) y) (count (parse ws) y + 1))
-  pub own : bucketAt (parse (r .words)) (bucketOf (parse ws .header) y) ≡ ownAfter (parse ws) (bucketOf (parse ws .header) y) (placeOf (parse ws .header) y) (count (parse ws) y + 1)
-  pub own-full : fullFor (parse (r .words)) (bucketOf (parse ws .header) y) ≡ fullAfter (parse ws) (bucketOf (parse ws .header) y) (placeOf (parse ws .header) y) (count (parse ws) y + 1)
-  pub others : (i : ℕ) → i < bucketsIn (parse ws .header) → i ≢ bucketOf (parse ws .header) y → (bucketAt (parse (r .words)) i ≡ bucketAt (parse ws) i) × (fullFor (parse (r .words)) i ≡ fullFor (parse ws) i)
+  pub own : bucketAt (parse (r .words)) (bucketFor ws y) ≡ ownAfter (parse ws) (bucketFor ws y) (placeFor ws y) (count (parse ws) y + 1)
+  pub own-full : fullFor (parse (r .words)) (bucketFor ws y) ≡ fullAfter (parse ws) (bucketFor ws y) (placeFor ws y) (count (parse ws) y + 1)
+  pub others : (i : ℕ) → i < bucketsIn (parse ws .header) → i ≢ bucketFor ws y → (bucketAt (parse (r .words)) i ≡ bucketAt (parse ws) i) × (fullFor (parse (r .words)) i ≡ fullFor (parse ws) i)
 
 -- the words of a bucket of such a wall are the only ones that the layout allows: without the flag the encoding of its counts; with it that
 -- of its own counts with the flag and the number, and in its full-size bucket a count for each moved place and 0 for each other

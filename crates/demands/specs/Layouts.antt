@@ -10,10 +10,10 @@ use Rattle.model.specs.Lists.{sum, tabulate}
 use Rattle.model.specs.Shapes.{rowsOf, allRows, counterBits}
 use Rattle.model.specs.Levels.{uses, partAt, start}
 use Rattle.model.specs.Growing.{incremented, hasRoom}
-use Rattle.model.specs.Walls.{Bucket, Wall, bucketOf, placeOf, bucketsIn, parse}
-use Rattle.model.specs.Sound.{flag, levelsOf, bucketAt, ownAt, count}
-use Rattle.model.specs.Calls.{imageCall, image, fromLevels, overflows, increment}
-use Rattle.demands.specs.DemandTwo.{Accepted, Words}
+use Rattle.model.specs.Walls.{Bucket, Wall, bucketsIn, parse}
+use Rattle.model.specs.Sound.{flag, levelsOf, bucketAt, ownAt}
+use Rattle.model.specs.Calls.{imageCall, image, fromLevels, increment}
+use Rattle.demands.specs.DemandTwo.{Accepted, Words, bucketFor, placeFor, overflowsAt}
 
 -- in bucket i the counter at place a has an entry d levels above the first
 abbrev pub UsesLevel : Wall → ℕ → ℕ → ℕ → Type 0
@@ -37,14 +37,13 @@ part v i a d = partAt (allRows (v .header .width) (v .header .rows)) (levelsOf (
 -- how flow y of these words grows, its bucket having no flag: its levels have room exactly where the level that its counter would come into
 -- has an entry free; then one is added to the lowest part and carried, entries and marks moving together
 pub record Grows (ws : List ℕ) (y : ℕ) : Type 0 where
-  pub room : T (roomToCarry (parse ws) (bucketOf (parse ws .header) y) (placeOf (parse ws .header) y))
-      ↔ T (not (overflows (parse ws) (bucketOf (parse ws .header) y) (placeOf (parse ws .header) y) (count (parse ws) y + 1)))
-  pub carried : increment ws y .number ≡ 0 → T (roomToCarry (parse ws) (bucketOf (parse ws .header) y) (placeOf (parse ws .header) y))
-      → bucketAt (parse (increment ws y .words)) (bucketOf (parse ws .header) y) ≡ carriedIn (parse ws) (bucketOf (parse ws .header) y) (placeOf (parse ws .header) y)
+  pub room : T (roomToCarry (parse ws) (bucketFor ws y) (placeFor ws y)) ↔ T (not (overflowsAt ws y))
+  pub carried : increment ws y .number ≡ 0 → T (roomToCarry (parse ws) (bucketFor ws y) (placeFor ws y))
+      → bucketAt (parse (increment ws y .words)) (bucketFor ws y) ≡ carriedIn (parse ws) (bucketFor ws y) (placeFor ws y)
 
 pub record Layouts : Type 0 where
   -- the document's rule of an increment, on a wall that the check accepts, where number 10 is not met
-  pub grows : (ws : List ℕ) (y : ℕ) → Accepted ws → parse ws .header .total < parse ws .header .limit → flag (bucketAt (parse ws) (bucketOf (parse ws .header) y)) ≡ 0 → Grows ws y
+  pub grows : (ws : List ℕ) (y : ℕ) → Accepted ws → parse ws .header .total < parse ws .header .limit → flag (bucketAt (parse ws) (bucketFor ws y)) ≡ 0 → Grows ws y
   -- a bucket's own count is the sum of the parts of its p levels, each weighted by the bits below its level
   pub weighted : (ws : List ℕ) (i a : ℕ) → a < 64 → getD (ownAt (parse ws) i) a 0 ≡ sum (tabulate (suc (length (parse ws .header .rows))) (λ d. part (parse ws) i a d * 2 ^ below (parse ws) d))
   -- L of the three shapes
