@@ -2,32 +2,21 @@ use answer::Answer;
 use header::Opened;
 use layout::Wall;
 ghost use mathlib.Core.Path.{_≡_};
-ghost use mathlib.Core.List.{_++_};
-ghost use Prim.Native.Nat.{_-_, _≤_};
-ghost use lib.ListN.{length, replicate, take};
+ghost use Prim.Native.Nat.{_≤_};
+ghost use lib.ListN.{length};
 ghost use Rattle.answer.specs.Answers.{outcomeOf};
 ghost use Rattle.model.specs.Calls as model;
 ghost use Rattle.model.specs.Walls.{fresh, wallSize};
 ghost use Rattle.layout.specs.Views.{headerOf};
 ghost use Rattle.header.specs.Headers.{Known};
 
-// Zero in all words.
-fn clear(words: &mut [u64])
-    ensures { λ _. ⌜ now (words .exit) ≡ replicate (length (now (words .entry))) 0 ⌝ }
-{
-    let mut i = 0;
-    while i < words.len() {
-        words[i] = 0;
-        i += 1;
-    }
-}
-
 // The fresh wall of a header, whatever stood in the words. `raise` and `close` show what it asks.
 fn write(words: &mut [u64], v: Wall)
     requires { ⌜ Known v × (v .full ≤ 4096) × (v .spare ≡ 0) × (length (now words) ≡ wallSize (headerOf v)) ⌝ }
     ensures { λ _. ⌜ now (words .exit) ≡ fresh (headerOf v) ⌝ }
 {
-    clear(words);
+    let n = words.len();
+    zeros::clear(words, 0, n);
     words[0] = v.bits * 72057594037927936
         + v.width * 281474976710656
         + v.shape * 1099511627776

@@ -5,7 +5,7 @@ use Prim.Native.Nat.{ℕ, suc, _+_, _%_, _^_, _≤_, _<_}
 use native.Mathlib.Nat.{add-zero, add-assoc, one-mul, mod-eq-of-lt}
 use native.Mathlib.Numerals.{one-add}
 use native.Mathlib.Omega.{arith}
-use lib.ListN.{length, getD, take, drop, set, replicate, length-set, length-drop, length-replicate, replicate-append-replicate}
+use lib.ListN.{length, getD, take, drop, set, length-set, length-drop}
 use lib.Seq.{length-take-le, getD-take, getD-drop}
 use Rattle.model.specs.Lists.{splice}
 use Rattle.model.specs.Packed.{pack, unpack, replaced}
@@ -15,7 +15,7 @@ use Rattle.model.specs.Calls.{moveIn}
 use Rattle.model.proofs.Packing.{pack-set, pack-unpack, below-unpack, length-unpack}
 use Rattle.model.proofs.Buckets.{moved-length}
 use Rattle.moves.specs.Full.{fullAt}
-use Rattle.model.proofs.Splices.{splice-set, splice-read, splice-again, splice-same, word-more}
+use Rattle.model.proofs.Splices.{splice-set, splice-read, splice-again, splice-same}
 
 -- ---- one place is moved
 
@@ -63,11 +63,6 @@ moved-stored ws at a v m h l b e =
     ∙ ap (splice ws at) (moved-words f a v l (subst (λ y. y < 2 ^ 64) (sym g) b))
 
 -- ---- zeros
-
-pub zeros-more : (ws x : List ℕ) (at i : ℕ) → x ≡ splice ws at (replicate i 0) → at + i < length ws → set x (at + i) 0 ≡ splice ws at (replicate (i + 1) 0)
-zeros-more ws x at i e h =
-    word-more ws at (replicate i 0) x e (at + i) (ap (λ k. at + k) (sym (length-replicate i 0))) 0 h
-    ∙ ap (splice ws at) (replicate-append-replicate i 1 0)
 
 -- the first place of a bucket that was empty
 pub first-stored : (ws : List ℕ) (at a v : ℕ) (x y : List ℕ) → at + 65 ≤ length ws → a < 64

@@ -17,23 +17,11 @@ pub fn move_in(words: &mut [u64], at: usize, place: u64, count: u64)
     words[at + 1 + a] = count;
 }
 
-// Every word becomes 0. `move_first` shows what this asks.
-fn clear(words: &mut [u64], at: usize)
-    requires { ⌜ at + 65 ≤ length (now words) ⌝ }
-    ensures { λ _. ⌜ now (words .exit) ≡ splice (now (words .entry)) at (fullWords emptyFull) ⌝ }
-{
-    let mut i = 0;
-    while i < 65 {
-        words[at + i] = 0;
-        i += 1;
-    }
-}
-
 // Every word is written, whatever stood there: the place is moved, with this count, and the rest is 0. It asks as `move_in` does.
 pub fn move_first(words: &mut [u64], at: usize, place: u64, count: u64)
     requires { ⌜ (at + 65 ≤ length (now words)) × (place < 64) ⌝ }
     ensures { λ _. ⌜ now (words .exit) ≡ splice (now (words .entry)) at (fullWords (moveIn emptyFull place count)) ⌝ }
 {
-    clear(words, at);
+    zeros::clear(words, at, 65);
     move_in(words, at, place, count);
 }

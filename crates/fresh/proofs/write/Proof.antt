@@ -4,6 +4,7 @@ use mathlib.Core.Path.{ap, _∙_}
 use mathlib.Core.List.{List}
 use Prim.Native.Nat.{ℕ, _+_, _*_}
 use lib.ListN.{length, set, length-set}
+use Rattle.zeros.proofs.Laws.{zeros-all}
 use Rattle.fresh.proofs.Starting.{written}
 use Rattle.fresh.proofs.write.Statement.{statement}
 use Rattle.fresh.proofs.write.Tie as tie
@@ -53,7 +54,7 @@ returns : tie.Need-returns
 returns c =
     let s = c .before .before .before .before .before .before .before .before in
     let v = s .args .v in
-    ap (λ (l : List ℕ). set (set (set l 0 (v .bits * 72057594037927936 + v .width * 281474976710656 + v .shape * 1099511627776 + 21780290)) 1 (v .limit)) 3 (v .full)) (c .before .before .before .before .before .clear .ensures)
+    ap (λ (l : List ℕ). set (set (set l 0 (v .bits * 72057594037927936 + v .width * 281474976710656 + v .shape * 1099511627776 + 21780290)) 1 (v .limit)) 3 (v .full)) (c .before .before .before .before .before .clear .ensures ∙ zeros-all (s .args .words .now))
     ∙ written (length (s .args .words .now)) v (s .pre .0) (s .pre .1) (s .pre .2) (s .pre .3)
 
 pub write-spec : {M : Type 1} → statement M

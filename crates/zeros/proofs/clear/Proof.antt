@@ -5,15 +5,15 @@ use native.Mathlib.Omega.{arith}
 use lib.ListN.{length, replicate, length-set}
 use Rattle.model.specs.Lists.{splice}
 use Rattle.model.proofs.Splices.{splice-same}
-use Rattle.moves.proofs.Fulls.{zeros-more}
-use Rattle.moves.proofs.clear.Statement.{statement}
-use Rattle.moves.proofs.clear.Tie as tie
+use Rattle.zeros.proofs.Laws.{zeros-more}
+use Rattle.zeros.proofs.clear.Statement.{statement}
+use Rattle.zeros.proofs.clear.Tie as tie
 
 abbrev Inv-loop : tie.InvT-loop
-Inv-loop words₀ at i₀ words i = (i ≤ 65) × (words ≡ splice words₀ at (replicate i 0)) × (length words ≡ length words₀)
+Inv-loop words₀ at n i₀ words i = (i ≤ n) × (words ≡ splice words₀ at (replicate i 0)) × (length words ≡ length words₀)
 
 abbrev μ-loop : tie.MeasureT-loop
-μ-loop words₀ at i₀ words i = 65 - i
+μ-loop words₀ at n i₀ words i = n - i
 
 loop-holds : tie.Need-loop-holds Inv-loop μ-loop
 loop-holds c = (search needs, sym (splice-same (c .args .words .now) (c .args .at) 0 (omega arith)), refl)
@@ -27,8 +27,8 @@ mul-words c = search needs
 slice-write-words : tie.Need-slice-write-words Inv-loop μ-loop
 slice-write-words c = search needs
 
-add-i : tie.Need-add-i Inv-loop μ-loop
-add-i c = search needs
+add-k : tie.Need-add-k Inv-loop μ-loop
+add-k c = search needs
 
 loop-less : tie.Need-loop-less Inv-loop μ-loop
 loop-less c = search needs
@@ -37,7 +37,7 @@ loop-again : tie.Need-loop-again Inv-loop μ-loop
 loop-again c =
     let a = c .before .before .args in
     let h = c .before .loop .inv in
-    (search needs, zeros-more (a .words .now) (c .before .loop .words) (a .at) (c .before .loop .i) (h .1) (omega arith), simp length-set (omega arith))
+    (search needs, zeros-more (a .words .now) (c .before .loop .words) (a .at) (c .before .loop .k) (h .1) (omega arith), simp length-set (omega arith))
 
 same-length : tie.Need-same-length Inv-loop μ-loop
 same-length c = search needs
@@ -45,7 +45,7 @@ same-length c = search needs
 returns : tie.Need-returns Inv-loop μ-loop
 returns c =
     let a = c .before .before .args in
-    let e : c .before .loop .i ≡ 65 = omega arith in
+    let e : c .before .loop .k ≡ a .n = omega arith in
     c .before .loop .inv .1 ∙ ap (λ (i : ℕ). splice (a .words .now) (a .at) (replicate i 0)) e
 
 pub clear-spec : {M : Type 1} → statement M
@@ -58,7 +58,7 @@ clear-spec =
     add-words
     mul-words
     slice-write-words
-    add-i
+    add-k
     loop-less
     loop-again
     same-length
