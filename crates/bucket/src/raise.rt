@@ -62,26 +62,26 @@ impl Bucket {
     }
 
     // The count at a place comes to the value, for which there is room.
-    pub fn raise(self, shape: Shape, place: u64, value: u64) -> Self
+    pub fn raise(mut self, shape: Shape, place: u64, value: u64) -> Self
         requires { ⌜ Raises shape self place value × T (roomFor shape self place value) ⌝ }
         ensures { λ r. ⌜ asBucket shape r ≡ holding (shape .width) (rowsIn shape) (set (ownOf shape self) place value) ⌝ }
     {
         let w = shape.width;
-        let mut b = self.put(w, place, value % packed::pow2(w));
+        self = self.put(w, place, value % packed::pow2(w));
         let high = value >> w;
         if high == 0 {
-            return b;
+            return self;
         }
-        let marks = b.marks;
-        let upper = b.upper;
+        let marks = self.marks;
+        let upper = self.upper;
         let next = packed::rank(marks, place);
         if packed::bit(marks, place) == 0 {
-            b.marks = packed::set_mark(marks, place);
-            b.upper = upper.grow(shape, shape.uppers, 0, 0, next, high);
-            return b;
+            self.marks = packed::set_mark(marks, place);
+            self.upper = upper.grow(shape, shape.uppers, 0, 0, next, high);
+            return self;
         }
-        b.upper = upper.rise(shape, next, high);
-        b
+        self.upper = upper.rise(shape, next, high);
+        self
     }
 
     // The levels and marks stay, the flag and the number go into the packed word. A wall has at most 4,096 numbers.

@@ -3,20 +3,20 @@ use mathlib.Core.Path.{_≡_, refl, sym, ap, ap₂, _∙_, subst}
 use mathlib.Core.Bool.{Bool, true, false}
 use mathlib.Core.List.{List, [], _∷_, map}
 use Prim.Native.Nat.{ℕ, zero, suc, _+_, _*_, _/_, _%_, _^_, _≤_, _<_}
-use native.Mathlib.Nat.{le-trans, mod-eq-of-lt, mod-lt}
+use native.Mathlib.Nat.{le-trans, mod-eq-of-lt, mod-lt, zero-div, zero-mod}
 use native.Mathlib.Decide.{decLt}
 use native.Mathlib.Omega.{arith}
-use lib.Dec.{T, eqb, ltb, eqb→eq, lit<}
+use lib.Dec.{T, eqb, ltb, eqb→eq, ltb→lt, not-T, lit<}
 use lib.Pow.{pow-mono, shr-shr}
 use lib.ListN.{length, getD, take, drop, replicate, length-replicate}
 use lib.Seq.{ext-getD}
 use Rattle.model.specs.Lists.{sum, oneIf, byMark, tabulate, pieces}
-use Rattle.model.specs.Packed.{pack, unpack, bit, joinFields, cutFields}
+use Rattle.model.specs.Packed.{pack, unpack, bit, rank, joinFields, cutFields}
 use Rattle.model.specs.Shapes.{Row, markWidths, bucketSize}
 use Rattle.model.specs.Slots.{slot}
 use Rattle.model.specs.Levels.{Level}
 use Rattle.model.specs.Walls.{Header, Bucket, Full, Wall, flows, bucketsIn, bucketLength, readHeader, readFull, parse, emptyBucket, emptyFull}
-use Rattle.model.specs.Sound.{upperMarks, flag, spareBits, fullNumber, packedWord, pairLevels, levelsOf, ownCounts, movedAt, fullCount, bucketCounts, bucketAt, ownAt, fullFor, countsAt, count, holdsNumber, holders, isEmptyFull}
+use Rattle.model.specs.Sound.{upperMarks, flag, spareBits, fullNumber, packedWord, pairLevels, levelsOf, ownCounts, movedAt, fullCount, bucketCounts, soundPlace, bucketAt, ownAt, fullFor, countsAt, count, holdsNumber, holders, isEmptyFull}
 use Rattle.model.specs.Calls.{fromLevels, holding, overflowed}
 use Rattle.model.proofs.Lists.{Below, below-take, below-at}
 use Rattle.model.proofs.Packing.{length-unpack, pack-unpack}
@@ -24,6 +24,7 @@ use Rattle.model.proofs.Fields.{join-cut}
 use Rattle.model.proofs.Tools.{Each, and-tests, each-at, each-map}
 use Rattle.model.proofs.Headers.{Fine, flows-number}
 use Rattle.model.proofs.Slots.{slot-lt, slot-slot}
+use Rattle.model.proofs.Crowding.{T-true, T-false}
 use Rattle.model.proofs.Parsing.{Lengths, bucket-at, getD-in}
 use Rattle.model.proofs.Buckets.{SoundB, own-coded, length-own, counts-none, count-at, packed-goes, unpack-bit, flag-le}
 use Rattle.model.proofs.SoundWalls.{SoundWall}
@@ -210,6 +211,9 @@ bits-word x y lx ly f =
     unpack-bit x a la ∙ f a la ∙ sym (unpack-bit y a la)))
     ∙ (pack-unpack 1 64 y ∙ mod-eq-of-lt ly)
 
+bit-none : (a : ℕ) → bit 0 a ≡ 0
+bit-none a = ap (λ n. n % 2) (zero-div (2 ^ a)) ∙ zero-mod 2
+
 same-full : (f g : Full) → length (f .counts) ≡ 64 → length (g .counts) ≡ 64 → f .moved < 2 ^ 64 → g .moved < 2 ^ 64
     → ((a : ℕ) → a < 64 → movedAt f a ≡ movedAt g a) → ((a : ℕ) → a < 64 → fullCount f a ≡ fullCount g a) → f ≡ g
 same-full f g nf ng lf lg m c =
@@ -229,6 +233,44 @@ full-below ws h q =
     (each-map (λ (f : Full). f .moved < 2 ^ 64) (Below (2 ^ 64)) readFull (λ x b. below-at x 0 (lit< tt) b) (pieces 65 (hd .full) (drop o ws)) (below-pieces 65 (hd .full) (drop o ws) (below-drop (2 ^ 64) ws o (words-below ws h))))
     (lit< tt)
 
+-- which places are moved, and whether there is a flag, by the bucket's own counts and the counts
+module _ (v : Wall) (s : SoundWall v) (i : ℕ) (li : i < bucketsIn (v .header)) where
+  not-below : (n : ℕ) → ltb n n ≡ false
+  not-below n = sym (T-false (ltb n n) (not-T (ltb n n) (λ t. let l = ltb→lt n n t in omega arith)))
+
+  moved-is : (a : ℕ) → a < 64 → movedAt (fullFor v i) a ≡ oneIf (ltb (getD (ownAt v i) a 0) (getD (countsAt v i) a 0))
+  unfolding countsAt
+  moved-is a la = go (movedAt f a) refl (mod-lt (f .moved / 2 ^ a) (lit< tt)) (count-at (ownAt v i) f a la) (s .each i li .places a la)
+    where
+      f : Full
+      f = fullFor v i
+
+      own : ℕ
+      own = getD (ownAt v i) a 0
+
+      go : (m : ℕ) → movedAt f a ≡ m → m < 2 → getD (countsAt v i) a 0 ≡ byMark (movedAt f a) own (fullCount f a) → T (soundPlace (ownAt v i) f a) → m ≡ oneIf (ltb own (getD (countsAt v i) a 0))
+      go zero e l h t = sym (ap (λ n. oneIf (ltb own n)) (h ∙ ap (λ m. byMark m own (fullCount f a)) e) ∙ ap oneIf (not-below own))
+      go (suc zero) e l h t =
+          sym (ap (λ n. oneIf (ltb own n)) (h ∙ ap (λ m. byMark m own (fullCount f a)) e)
+          ∙ ap oneIf (sym (T-true (ltb own (fullCount f a)) (subst (λ m. T (byMark m (eqb (fullCount f a) 0) (ltb own (fullCount f a)))) e t))))
+      go (suc (suc m)) e l h t = absurd (omega arith)
+
+  none-moved : ((q : ℕ) → getD (v .fulls) q emptyFull .moved < 2 ^ 64) → ((a : ℕ) → a < 64 → movedAt (fullFor v i) a ≡ 0) → flag (bucketAt v i) ≡ 0
+  none-moved low h =
+      let z : fullFor v i .moved ≡ 0 = bits-word (fullFor v i .moved) 0 (small (flag (bucketAt v i))) (lit< tt) (λ a la. h a la ∙ sym (bit-none a)) in
+      let n : flag (bucketAt v i) ≤ rank 0 64 = subst (λ x. flag (bucketAt v i) ≤ rank x 64) z (s .each i li .some) in
+      omega (arith, n, rank-none)
+    where
+      small : (m : ℕ) → byMark m emptyFull (getD (v .fulls) (fullNumber (bucketAt v i)) emptyFull) .moved < 2 ^ 64
+      small zero = lit< tt
+      small (suc m) = low (fullNumber (bucketAt v i))
+
+      rank-none : rank 0 64 ≡ 0
+      rank-none = refl
+
+  plain-none : flag (bucketAt v i) ≡ 0 → (a : ℕ) → movedAt (fullFor v i) a ≡ 0
+  plain-none e a = ap (λ m. bit (byMark m emptyFull (getD (v .fulls) (fullNumber (bucketAt v i)) emptyFull) .moved) a) e ∙ bit-none a
+
 module _ (v : Wall) (s : SoundWall v) (i : ℕ) (li : i < bucketsIn (v .header)) (lo : Below (2 ^ 64) (bucketAt v i .first)) where
   bucket-is : bucketAt v i ≡ byMark (flag (bucketAt v i)) (holding (v .header .width) (v .header .rows) (ownAt v i)) (overflowed (holding (v .header .width) (v .header .rows) (ownAt v i)) (fullNumber (bucketAt v i)))
   bucket-is = go (flag (bucketAt v i)) refl (flag-le (bucketAt v i))
@@ -241,13 +283,26 @@ module _ (v : Wall) (s : SoundWall v) (i : ℕ) (li : i < bucketsIn (v .header))
 module _ (v u : Wall) (s : SoundWall v) (r : SoundWall u) (e : v .header ≡ u .header)
     (bv : (i : ℕ) → i < bucketsIn (v .header) → Below (2 ^ 64) (bucketAt v i .first)) (bu : (i : ℕ) → i < bucketsIn (u .header) → Below (2 ^ 64) (bucketAt u i .first))
     (fv : (q : ℕ) → getD (v .fulls) q emptyFull .moved < 2 ^ 64) (fu : (q : ℕ) → getD (u .fulls) q emptyFull .moved < 2 ^ 64)
-    (flags : (i : ℕ) → i < bucketsIn (v .header) → flag (bucketAt v i) ≡ flag (bucketAt u i))
     (numbers : (i : ℕ) → i < bucketsIn (v .header) → fullNumber (bucketAt v i) ≡ fullNumber (bucketAt u i))
     (own : (i : ℕ) → i < bucketsIn (v .header) → ownAt v i ≡ ownAt u i)
-    (moved : (i a : ℕ) → i < bucketsIn (v .header) → a < 64 → movedAt (fullFor v i) a ≡ movedAt (fullFor u i) a)
     (c : (y : ℕ) → y < flows (v .header) → count v y ≡ count u y) where
   both : (i : ℕ) → i < bucketsIn (v .header) → i < bucketsIn (u .header)
   both = in-both v u s r e c
+
+  moved : (i a : ℕ) → i < bucketsIn (v .header) → a < 64 → movedAt (fullFor v i) a ≡ movedAt (fullFor u i) a
+  moved i a li la =
+      moved-is v s i li a la
+      ∙ ap₂ (λ x y. oneIf (ltb (getD x a 0) (getD y a 0))) (own i li) (counts-alike v u s r e c i li)
+      ∙ sym (moved-is u r i (both i li) a la)
+
+  flags : (i : ℕ) → i < bucketsIn (v .header) → flag (bucketAt v i) ≡ flag (bucketAt u i)
+  flags i li = go (flag (bucketAt v i)) refl (flag (bucketAt u i)) refl (flag-le (bucketAt v i)) (flag-le (bucketAt u i))
+    where
+      go : (m : ℕ) → flag (bucketAt v i) ≡ m → (n : ℕ) → flag (bucketAt u i) ≡ n → m ≤ 1 → n ≤ 1 → m ≡ n
+      go zero p zero q h k = refl
+      go zero p (suc n) q h k = absurd (omega (arith, q, none-moved u r i (both i li) fu (λ a la. sym (moved i a li la) ∙ plain-none v s i li p a)))
+      go (suc m) p zero q h k = absurd (omega (arith, p, none-moved v s i li fv (λ a la. moved i a li la ∙ plain-none u r i (both i li) q a)))
+      go (suc m) p (suc n) q h k = omega arith
 
   abbrev bucketFrom : Header → ℕ → List ℕ → ℕ → Bucket
   bucketFrom h m os n = byMark m (holding (h .width) (h .rows) os) (overflowed (holding (h .width) (h .rows) os) n)

@@ -28,7 +28,7 @@ determined : (ws us : List ℕ) → Words ws → Words us → Accepted ws → Ac
 determined ws us h k ok good a =
     sym (back ws h ok)
     ∙ ap flatten (walls-alike (parse ws) (parse us) (check-sound ws .0 ok .1) (check-sound us .0 good .1) (a .header) (first-below ws h) (first-below us k) (full-below ws h) (full-below us k)
-    (a .flags) (a .numbers) (a .own) (a .moved) (a .counts))
+    (a .numbers) (a .own) (a .counts))
     ∙ back us k good
 
 -- walls without flags agree in all where they count alike
@@ -39,13 +39,10 @@ agree-plain ws us ok good a =
     let s = check-sound ws .0 ok .1 in
     let r = check-sound us .0 good .1 in
     let both = in-both v u s r (a .header) (a .counts) in
-    let none : (w : Wall) (i : ℕ) → flag (bucketAt w i) ≡ 0 → fullFor w i ≡ emptyFull = λ w i z. ap (λ m. byMark m emptyFull (getD (w .fulls) (fullNumber (bucketAt w i)) emptyFull)) z in
     record {
       header = a .header;
-      flags = λ i l. a .plain i l .0 ∙ sym (a .plain i l .1);
       numbers = λ i l. number-none (s .each i l) (a .plain i l .0) ∙ sym (number-none (r .each i (both i l)) (a .plain i l .1));
       own = λ i l. sym (at-counts v s i l (a .plain i l .0)) ∙ counts-alike v u s r (a .header) (a .counts) i l ∙ at-counts u r i (both i l) (a .plain i l .1);
-      moved = λ i p l _. ap (λ (f : Full). movedAt f p) (none v i (a .plain i l .0) ∙ sym (none u i (a .plain i l .1)));
       counts = a .counts;
     }
 

@@ -57,13 +57,12 @@ pub record Alike (ws us : List ℕ) : Type 0 where
   pub plain : (i : ℕ) → i < bucketsIn (parse ws .header) → (flag (bucketAt (parse ws) i) ≡ 0) × (flag (bucketAt (parse us) i) ≡ 0)
   pub counts : (y : ℕ) → y < flows (parse ws .header) → count (parse ws) y ≡ count (parse us) y
 
--- two accepted walls of one header with the same counts, flags, numbers, own counts and moved places
+-- two accepted walls of one header with the same counts, and in each bucket the same own counts and number: which buckets are flagged and which
+-- places are moved follows
 pub record Agree (ws us : List ℕ) : Type 0 where
   pub header : parse ws .header ≡ parse us .header
-  pub flags : (i : ℕ) → i < bucketsIn (parse ws .header) → flag (bucketAt (parse ws) i) ≡ flag (bucketAt (parse us) i)
   pub numbers : (i : ℕ) → i < bucketsIn (parse ws .header) → fullNumber (bucketAt (parse ws) i) ≡ fullNumber (bucketAt (parse us) i)
   pub own : (i : ℕ) → i < bucketsIn (parse ws .header) → ownAt (parse ws) i ≡ ownAt (parse us) i
-  pub moved : (i a : ℕ) → i < bucketsIn (parse ws .header) → a < 64 → movedAt (fullFor (parse ws) i) a ≡ movedAt (fullFor (parse us) i) a
   pub counts : (y : ℕ) → y < flows (parse ws .header) → count (parse ws) y ≡ count (parse us) y
 
 pub record DemandTwo : Type 0 where

@@ -51,11 +51,10 @@ impl Upper {
 
     // A counter of value v0 comes in at entry a0 of the upper level j0, whose marks begin at bit off0: into this level and those after it that
     // its value reaches. `rise` and `raise` show what this asks.
-    pub fn grow(self, shape: Shape, levels: u64, j0: u64, off0: u64, a0: u64, v0: u64) -> Self
+    pub fn grow(mut self, shape: Shape, levels: u64, j0: u64, off0: u64, a0: u64, v0: u64) -> Self
         requires { ⌜ Comes shape levels j0 off0 self a0 v0 ⌝ }
         ensures { λ r. ⌜ Grown shape levels j0 off0 self (entering (rowsFrom levels shape j0) (levelsIn levels shape self off0 j0) a0 v0) r ⌝ }
     {
-        let mut b = self;
         let mut left = levels;
         let mut j = j0;
         let mut off = off0;
@@ -64,28 +63,27 @@ impl Upper {
         while 1 < left {
             let w = shape.width_at(j);
             let k = shape.entries_at(j);
-            let m = (b.packed >> off) % packed::pow2(k);
+            let m = (self.packed >> off) % packed::pow2(k);
             let part = v % packed::pow2(w);
             v = v >> w;
             if v == 0 {
-                return b.shift(j, off, k, w, a, part, 0);
+                return self.shift(j, off, k, w, a, part, 0);
             }
-            b = b.shift(j, off, k, w, a, part, 1);
+            self = self.shift(j, off, k, w, a, part, 1);
             a = packed::rank(m, a);
             off += k;
             j += 1;
             left -= 1;
         }
         let w = shape.width_at(j);
-        b.put_in(j, w, a, v)
+        self.put_in(j, w, a, v)
     }
 
     // The counter at entry a0 of the first upper level comes to the value v0. `raise` shows what this asks.
-    pub fn rise(self, shape: Shape, a0: u64, v0: u64) -> Self
+    pub fn rise(mut self, shape: Shape, a0: u64, v0: u64) -> Self
         requires { ⌜ Rises shape (shape .uppers) 0 0 self a0 v0 ⌝ }
         ensures { λ r. ⌜ Grown shape (shape .uppers) 0 0 self (raising (rowsIn shape) (levelsIn (shape .uppers) shape self 0 0) a0 v0) r ⌝ }
     {
-        let mut b = self;
         let mut left = shape.uppers;
         let mut j: u64 = 0;
         let mut off: u64 = 0;
@@ -93,17 +91,17 @@ impl Upper {
         let mut v = v0;
         while 1 < left {
             let w = shape.width_at(j);
-            b = b.replace(j, w, a, v % packed::pow2(w));
+            self = self.replace(j, w, a, v % packed::pow2(w));
             v = v >> w;
             if v == 0 {
-                return b;
+                return self;
             }
             let k = shape.entries_at(j);
-            let m = (b.packed >> off) % packed::pow2(k);
+            let m = (self.packed >> off) % packed::pow2(k);
             let next = packed::rank(m, a);
             if packed::bit(m, a) == 0 {
-                b.packed = packed::set_mark(b.packed, off + a);
-                return b.grow(shape, left - 1, j + 1, off + k, next, v);
+                self.packed = packed::set_mark(self.packed, off + a);
+                return self.grow(shape, left - 1, j + 1, off + k, next, v);
             }
             a = next;
             off += k;
@@ -111,6 +109,6 @@ impl Upper {
             left -= 1;
         }
         let w = shape.width_at(j);
-        b.replace(j, w, a, v)
+        self.replace(j, w, a, v)
     }
 }
