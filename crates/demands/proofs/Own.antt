@@ -81,7 +81,8 @@ count-kept x v y d p q e =
     ap (λ v. count v y) p ∙ ap (λ n. getD (countsAt v (slot n y / 64)) (slot n y % 64) 0) q ∙ ap (λ c. getD c (placeOf (x .header) y) 0) e
     ∙ getD-set-same (countsAt x (bucketOf (x .header) y)) (placeOf (x .header) y) (count x y + d) 0 (rw length-countsAt (mod-lt (slot (x .header .bits) y) (lit< tt)))
 
-pub own-raised : (ws : List ℕ) (y : ℕ) → Clear (bucketRefusals ws y ++ stepRefusals (parse ws) y) → count (parse (flatten (raisedBy (parse ws) y 1))) y ≡ count (parse ws) y + 1
+pub own-raised : (ws : List ℕ) (y : ℕ) → Clear (bucketRefusals ws y ++ stepRefusals (parse ws) y)
+    → (parse (flatten (raisedBy (parse ws) y 1)) ≡ raisedBy (parse ws) y 1) × (count (parse (flatten (raisedBy (parse ws) y 1))) y ≡ count (parse ws) y + 1)
 unfolding count soundAt
 own-raised ws y k =
     let v : Wall = parse ws in
@@ -94,4 +95,4 @@ own-raised ws y k =
     let f : flag (bucketAt v i) ≡ 0 → noRoom v i a (count v y + 1) ≡ true → v .header .used < v .header .full =
     λ e t. lt-of (v .header .used) (v .header .full) (l .spare-full) (subst₂ (λ m b. T (not (byMark m b false && eqb (v .header .used) (v .header .full)))) e t (k .1 .1 .1 .1 .1 .0)) in
     let r = step-read v (shaped-parse ws g) l (tabled-parse ws) i a 1 (bucket-lt (v .header .bits) y (l .bits-low)) la s (omega (arith, lt-of (v .header .total) (v .header .limit) (l .within) (k .1 .1 .1 .0))) f in
-    count-kept v (raisedBy v y 1) y 1 (r .back) (r .bits) (r .counts)
+    (r .back, count-kept v (raisedBy v y 1) y 1 (r .back) (r .bits) (r .counts))

@@ -66,13 +66,15 @@ own-reads ws y c = answer-done (count (parse ws) y) ws ws (firstMet (bucketRefus
 
 own-raises : (ws : List ℕ) (y : ℕ) → Clear (bucketRefusals ws y ++ stepRefusals (parse ws) y)
     → (increment ws y .number ≡ 0) × (increment ws y .value ≡ count (parse ws) y + 1) × (count (parse (increment ws y .words)) y ≡ count (parse ws) y + 1)
+    × (parse (increment ws y .words) ≡ raisedBy (parse ws) y 1)
 unfolding increment
 own-raises ws y c =
     let rs = bucketRefusals ws y ++ stepRefusals (parse ws) y in
     let e = answer-done (count (parse ws) y + 1) (flatten (raisedBy (parse ws) y 1)) ws (firstMet rs) (first-clear rs c) in (
       ap (λ (r : Outcome). r .number) e,
       ap (λ (r : Outcome). r .value) e,
-      ap (λ (r : Outcome). count (parse (r .words)) y) e ∙ own-raised ws y c,
+      ap (λ (r : Outcome). count (parse (r .words)) y) e ∙ own-raised ws y c .1,
+      ap (λ (r : Outcome). parse (r .words)) e ∙ own-raised ws y c .0,
     )
 
 pub demand-two : DemandTwo

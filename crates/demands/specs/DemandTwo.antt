@@ -7,7 +7,7 @@ use Prim.Native.Nat.{ℕ, _+_, _^_, _<_}
 use Rattle.model.specs.Lists.{oneIf}
 use Rattle.model.specs.Walls.{Wall, bucketOf, placeOf, flows, bucketsIn, withTotals, parse}
 use Rattle.model.specs.Sound.{flag, fullNumber, bucketAt, ownAt, countsAt, fullFor, movedAt, fullCount, count}
-use Rattle.model.specs.Calls.{Outcome, Clear, bucketRefusals, stepRefusals, overflows, holding, overflowed, lookup, increment, check}
+use Rattle.model.specs.Calls.{Outcome, Clear, bucketRefusals, stepRefusals, overflows, raisedBy, holding, overflowed, lookup, increment, check}
 use Rattle.model.specs.After.{ownAfter, fullAfter}
 use lib.ListN.{getD}
 
@@ -72,7 +72,8 @@ pub record DemandTwo : Type 0 where
   pub same-words : (ws us : List ℕ) → Words ws → Words us → Accepted ws → Accepted us → Alike ws us → ws ≡ us
   -- with flags too: nothing else is left open
   pub determined : (ws us : List ℕ) → Words ws → Words us → Accepted ws → Accepted us → Agree ws us → ws ≡ us
-  -- on any words whose own bucket is sound, accepted by the check or not
+  -- on any words whose header, flow and own bucket are good, accepted by the check or not
   pub own-reads : (ws : List ℕ) (y : ℕ) → Clear (bucketRefusals ws y) → lookup ws y ≡ record { number = 0; value = count (parse ws) y; words = ws }
   pub own-raises : (ws : List ℕ) (y : ℕ) → Clear (bucketRefusals ws y ++ stepRefusals (parse ws) y)
       → (increment ws y .number ≡ 0) × (increment ws y .value ≡ count (parse ws) y + 1) × (count (parse (increment ws y .words)) y ≡ count (parse ws) y + 1)
+      × (parse (increment ws y .words) ≡ raisedBy (parse ws) y 1)

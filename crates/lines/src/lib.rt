@@ -33,7 +33,7 @@ fn each_line(input: &[u8], words: &mut [u64], out: &mut [u8]) -> usize
     texts::totals(out, end, words)
 }
 
-// The whole output for the whole input, over the wall in the words: how many bytes of `out` it takes.
+// The whole output for the whole input, over the wall in the words: how many bytes of `out` it takes. `count::respond` shows that there is room.
 pub fn lines(input: &[u8], words: &mut [u64], out: &mut [u8]) -> usize
     requires { ⌜ length (transcript (now input) (now words)) ≤ length (now out) ⌝ }
     ensures { λ r. ⌜ (r ≡ length (transcript (now (input .entry)) (now (words .entry)))) × (now (out .exit) ≡ transcript (now (input .entry)) (now (words .entry)) ++ drop r (now (out .entry))) × (now (words .exit) ≡ wordsAfter (now (input .entry)) (now (words .entry))) ⌝ }

@@ -1,4 +1,5 @@
-// A word of packed entries of w bits each, entry 0 lowest. A mark is an entry of one bit.
+// A word of packed entries of w bits each, entry 0 lowest. A mark is an entry of one bit. Places and widths lie within a word: who
+// knows the shape of a bucket shows it.
 ghost use mathlib.Core.Path.{_≡_};
 ghost use Prim.Native.Nat.{_+_, _-_, _*_, _/_, _%_, _≤_, _<_, _^_};
 ghost use lib.Count.{ones};

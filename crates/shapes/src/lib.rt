@@ -76,7 +76,7 @@ pub fn widths_of(shape: u64) -> u64
     width_bytes(5)
 }
 
-// L
+// L. A good header shows what this asks, and the refusals of raise and of the limits call do.
 pub fn counter_bits(shape: u64, width: u64) -> u64
     requires { ⌜ (3 ≤ shape) × (shape ≤ 5) × (width ≤ 16) ⌝ }
     ensures { λ r. ⌜ (r ≡ counterBits width (rowsOf shape)) × (r < 64) ⌝ }

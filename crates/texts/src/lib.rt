@@ -6,7 +6,7 @@ ghost use Rattle.model.specs.Walls.{readHeader};
 ghost use Rattle.texts.specs.Texts.{answerLine, badLine, decimal, totalLine};
 ghost use Rattle.texts.specs.Writing.{Room, Wrote};
 
-// Each of these writes at a place where there is room, and gives the next place.
+// Each of these writes at a place where there is room, which its caller shows, and gives the next place.
 
 pub fn text(out: &mut [u8], at: usize, s: &[u8]) -> usize
     requires { ⌜ Room (now out) at (now s) ⌝ }
