@@ -1,5 +1,5 @@
 -- Raise and close: the words of a fresh wall, and each refusal.
-use mathlib.Core.Path.{_≡_, refl, sym, ap, ap₂, _∙_, subst}
+use mathlib.Core.Path.{_≡_, sym, ap, ap₂, _∙_, subst}
 use mathlib.Core.Bool.{not}
 use mathlib.Core.List.{List, [], _∷_}
 use Prim.Native.Nat.{ℕ, suc, _+_, _*_, _≤_, _<_}
@@ -23,9 +23,6 @@ use Rattle.header.specs.Headers.{openedOf, Known}
 use Rattle.header.proofs.Opening.{opened, good-known}
 
 -- ---- the words
-
-four-set : (n x m t f : ℕ) → set (set (set (replicate (suc (suc (suc (suc n)))) 0) 0 x) 1 m) 3 f ≡ x ∷ m ∷ 0 ∷ f ∷ replicate n 0
-four-set n x m t f = refl
 
 pub written : (n : ℕ) (v : Wall) → Known v → v .full ≤ 4096 → v .spare ≡ 0 → n ≡ wallSize (headerOf v)
     → set (set (set (replicate n 0) 0 (v .bits * 72057594037927936 + v .width * 281474976710656 + v .shape * 1099511627776 + 21780290)) 1 (v .limit)) 3 (v .full) ≡ fresh (headerOf v)

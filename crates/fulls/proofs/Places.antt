@@ -3,15 +3,13 @@ use mathlib.Core.Path.{_≡_, refl, sym, ap, ap₂, _∙_, subst}
 use mathlib.Core.Bool.{Bool, true, false}
 use mathlib.Core.List.{List, [], _∷_}
 use Prim.Native.Nat.{ℕ, zero, suc, _+_, _-_, _^_, _≤_, _<_}
-use native.Mathlib.Nat.{le-of-eq}
 use native.Mathlib.Numerals.{add-one}
 use native.Mathlib.Omega.{arith}
 use lib.Dec.{T, leb, ltb, eqb, leb→le, le→leb}
 use lib.Count.{ones}
 use lib.ListN.{getD, take}
-use lib.Seq.{take-all}
-use borrow.Author.Count.{below-none, below-more}
-use borrow.Author.Tests.{lt-ltb, le-ltb, eq-eqb, ne-eqb}
+use borrow.Author.Count.{below-more}
+use borrow.Author.Tests.{lt-ltb, le-ltb}
 use Rattle.model.specs.Lists.{sum, all, every, byMark}
 use Rattle.model.specs.Packed.{bit, rank}
 use Rattle.model.specs.Walls.{Full}
@@ -19,7 +17,7 @@ use Rattle.model.specs.Sound.{movedAt, fullCount, bucketCounts, soundPlace}
 use Rattle.model.proofs.Packing.{rank-all}
 use Rattle.model.proofs.Tests.{every-at, every-of}
 use Rattle.model.proofs.Tools.{all-tests, tests-all}
-use Rattle.model.proofs.Buckets.{count-at, length-counts}
+use Rattle.model.proofs.Buckets.{count-at}
 use Rattle.uppers.specs.declared.Judged.{Judged}
 use Rattle.uppers.specs.declared.Judged.the-variants.{Sound, Unsound}
 use Rattle.uppers.specs.Judge.{verdict}
@@ -53,11 +51,6 @@ module _ (os ws : List ℕ) (at a : ℕ) (l : a < 64) where
       count-at os (fullAt ws at) a l ∙ mark-some (movedAt (fullAt ws at) a) (getD os a 0) (fullCount (fullAt ws at) a) (λ e. z (sym flag ∙ e))
       ∙ full-count ws at a l
 
-  own-test : bit (getD ws at 0) a ≡ 0 → soundPlace os (fullAt ws at) a ≡ eqb count 0
-  own-test e =
-      mark-none (movedAt (fullAt ws at) a) (eqb (fullCount (fullAt ws at) a) 0) (ltb (getD os a 0) (fullCount (fullAt ws at) a)) (flag ∙ e)
-      ∙ ap (λ x. eqb x 0) (full-count ws at a l)
-
   moved-test : (bit (getD ws at 0) a ≡ 0 → ⊥) → soundPlace os (fullAt ws at) a ≡ ltb (getD os a 0) count
   moved-test z =
       mark-some (movedAt (fullAt ws at) a) (eqb (fullCount (fullAt ws at) a) 0) (ltb (getD os a 0) (fullCount (fullAt ws at) a)) (λ e. z (sym flag ∙ e))
@@ -65,12 +58,6 @@ module _ (os ws : List ℕ) (at a : ℕ) (l : a < 64) where
 
   abbrev said : Judged
   said = verdict (soundPlace os (fullAt ws at) a) (getD (bucketCounts os (fullAt ws at)) a 0)
-
-  pub own-sound : bit (getD ws at 0) a ≡ 0 → count ≡ 0 → Sound (getD os a 0) ≡ said
-  own-sound e z = sym (ap₂ verdict (own-test e ∙ eq-eqb count 0 z) (own-count e))
-
-  pub own-unsound : bit (getD ws at 0) a ≡ 0 → (count ≡ 0 → ⊥) → Unsound ≡ said
-  own-unsound e z = sym (ap (λ b. verdict b (getD (bucketCounts os (fullAt ws at)) a 0)) (own-test e ∙ ne-eqb count 0 z))
 
   pub moved-sound : (bit (getD ws at 0) a ≡ 0 → ⊥) → getD os a 0 < count → Sound count ≡ said
   moved-sound z h = sym (ap₂ verdict (moved-test z ∙ lt-ltb (getD os a 0) count h) (moved-count z))
@@ -127,9 +114,6 @@ module _ (os : List ℕ) (f : Full) (total : ℕ) where
   abbrev place-said : ℕ → Judged
   place-said k = verdict (soundPlace os f k) (getD (bucketCounts os f) k 0)
 
-  pub none-passed : Passed os f total 0 0
-  none-passed = record { places = below-none (λ i. soundPlace os f i ≡ true); adds = refl; most = omega arith }
-
   pub no-flag : rank (f .moved) 64 ≡ 0 → Unsound ≡ all-said
   no-flag e = none 64 (rank (f .moved) 64) (soundPlace os f) (sum (bucketCounts os f)) total e
 
@@ -151,11 +135,6 @@ module _ (os : List ℕ) (f : Full) (total : ℕ) where
       adds = sym next-sum;
       most = omega (arith, q .most);
     }
-
-  pub all-passed : (s : ℕ) → 1 ≤ rank (f .moved) 64 → Passed os f total 64 s → Sound s ≡ all-said
-  all-passed s h q =
-      let e : s ≡ sum (bucketCounts os f) = q .adds ∙ ap sum (take-all 64 (bucketCounts os f) (le-of-eq (length-counts os f))) in
-      ap Sound e ∙ right 64 (rank (f .moved) 64) (soundPlace os f) (sum (bucketCounts os f)) total h (q .places) (subst (λ n. n ≤ total) e (q .most))
 
 -- the machine's count of the flags
 pub flags : (ws : List ℕ) (at : ℕ) → getD ws at 0 < 2 ^ 64 → ones (getD ws at 0) ≡ rank (fullAt ws at .moved) 64

@@ -81,11 +81,6 @@ at-start {s} f = record { fit = f; place = zero-add (s .uppers) }
 pub at-next : {s : Shape} {left j : ℕ} → At s left j → 0 < left → At s (left - 1) (j + 1)
 at-next p h = record { fit = p .fit; place = omega (arith, p .place) }
 
-pub height-next : (s : Shape) (left j : ℕ) → 0 < left → height (rowsFrom left s j) ≡ height (rowsFrom (left - 1) s (j + 1)) + widthAt s j
-unfolding rowsFrom
-height-next s zero j h = absurd (not-suc-le-zero h)
-height-next s (suc n) j h = rw (sub-one, add-one)
-
 pub marks-next : (s : Shape) (left j : ℕ) → 1 < left → marksAhead left s j ≡ entriesAt s j + marksAhead (left - 1) s (j + 1)
 unfolding rowsFrom
 marks-next s zero j h = absurd (omega arith)

@@ -1,21 +1,20 @@
 -- One level of the walk by which a counter comes into the upper levels.
-use mathlib.Core.Path.{_≡_, refl, sym, ap, _∙_, subst}
+use mathlib.Core.Path.{_≡_, refl, sym, ap, subst}
 use mathlib.Core.Bool.{Bool, true, false, _&&_}
 use mathlib.Core.List.{List, [], _∷_}
 use Prim.Native.Nat.{ℕ, zero, suc, _+_, _-_, _*_, _/_, _%_, _^_, _≤_, _<_}
-use native.Mathlib.Nat.{le-refl, lt-of-lt-of-le, mod-lt, zero-div, zero-mod, zero-mul, zero-add, mul-le-mul-left, mul-suc, div-eq-of-lt, one-mul, not-suc-le-zero, div-lt-iff-lt-mul}
+use native.Mathlib.Nat.{lt-of-lt-of-le, mod-lt, zero-div, zero-mod, zero-mul, zero-add, mul-le-mul-left, mul-suc, one-mul, not-suc-le-zero}
 use native.Mathlib.Numerals.{add-one, sub-one}
 use native.Mathlib.Omega.{arith}
 use lib.Dec.{T, ltb, lt→ltb, ltb→lt}
 use lib.Arith.{digits-lt, le→nltb}
-use lib.ListN.{getD, set, length}
-use lib.Seq.{getD-set-same, getD-set-other}
-use lib.Pow.{pow-add, pow-mono, pow-pos, high, low, shr-shr, split, shr-lt}
+use lib.ListN.{getD, set}
+use lib.Seq.{getD-set-other}
+use lib.Pow.{pow-add, pow-mono, pow-pos, split}
 use lib.Count.{ones, ones-cat}
 use Rattle.model.specs.Lists.{byMark}
 use Rattle.model.specs.Packed.{putIn, rank}
-use Rattle.model.specs.Shapes.{Row, counterBits}
-use Rattle.model.specs.Levels.{Level, level, soundLevels}
+use Rattle.model.specs.Levels.{level, soundLevels}
 use Rattle.model.proofs.Packing.{rank-ones}
 use Rattle.model.proofs.Ranks.{sign-one}
 use Rattle.model.proofs.Coding.{Sound}
@@ -25,11 +24,9 @@ use Rattle.model.proofs.Buckets.{levels-sound, sound-levels}
 use Rattle.packed.proofs.Words.{putIn-lt}
 use Rattle.shapes.specs.declared.Shape.{Shape}
 use Rattle.shapes.specs.Shapes.{rowsFrom, entriesAt, widthAt}
-use Rattle.shapes.proofs.Shapes.{counter-sum}
 use Rattle.uppers.specs.Uppers.{marksOf}
 use Rattle.growth.specs.Levels.{levelsFrom}
 use Rattle.rooms.specs.Growth.{entering, roomToEnter}
-use Rattle.growth.proofs.Ahead.{marksAhead, marks-next}
 
 -- ---- sound levels, one by one
 
@@ -64,17 +61,6 @@ module _ (s : Shape) (us : List ℕ) (g j n : ℕ) where
 
 -- ---- a value of the bits from this level on
 
-pub bits-on : (l : ℕ) (rs : List Row) → counterBits l rs ≡ counterBits 0 rs + l
-bits-on l rs = omega (arith, counter-sum l rs, counter-sum 0 rs)
-
-bits-next : (s : Shape) (left j : ℕ) → 0 < left → counterBits 0 (rowsFrom left s j) ≡ counterBits 0 (rowsFrom (left - 1) s (j + 1)) + widthAt s j
-unfolding rowsFrom
-bits-next s zero j h = absurd (not-suc-le-zero h)
-bits-next s (suc n) j h = rw (sub-one, add-one) (omega (arith, bits-on (0 + widthAt s j) (rowsFrom n s (suc j))))
-
-pub high-lt : (s : Shape) (j left v : ℕ) → 0 < left → v < 2 ^ counterBits 0 (rowsFrom left s j) → v / 2 ^ widthAt s j < 2 ^ counterBits 0 (rowsFrom (left - 1) s (j + 1))
-high-lt s j left v h p = shr-lt (counterBits 0 (rowsFrom (left - 1) s (j + 1))) (widthAt s j) (rw (bits-next s left j h) at p)
-
 -- ---- the words of a level put together
 
 pub past : (s : Shape) (us : List ℕ) (j x left g i : ℕ) → j < i → levelsFrom left s (set us j x) g i ≡ levelsFrom left s us g i
@@ -82,15 +68,6 @@ unfolding levelsFrom
 past s us j x zero g i h = refl
 past s us j x (suc l) g i h =
     rw (getD-set-other us j i x 0 (λ e. omega arith), past s us j x l (g / 2 ^ entriesAt s i) (suc i) (omega arith))
-
-pub build : (s : Shape) (us : List ℕ) (j x m h left : ℕ) → 1 < left → j < length us → m < 2 ^ entriesAt s j
-    → levelsFrom left s (set us j x) (h * 2 ^ entriesAt s j + m) j ≡ level x m ∷ levelsFrom (left - 1) s us h (j + 1)
-unfolding levelsFrom
-build s us j x m h zero l k f = absurd (omega arith)
-build s us j x m h (suc zero) l k f = absurd (omega arith)
-build s us j x m h (suc (suc n)) l k f =
-    rw (getD-set-same us j x 0 k, low h (entriesAt s j) f, high h (entriesAt s j) f, sub-one, add-one)
-    (ap (λ r. level x m ∷ r) (past s us j x (suc n) h (suc j) (le-refl (suc j))))
 
 -- ---- a counter comes in
 
@@ -109,11 +86,6 @@ module _ (s : Shape) (us : List ℕ) (g j n a v : ℕ) where
   unfolding rowsFrom levelsFrom roomToEnter
   no-room zero h k = absurd (not-suc-le-zero h)
   no-room (suc l) h k = rw (no-ltb n (entriesAt s j) k)
-
-  pub room-stop : (left : ℕ) → 0 < left → n < entriesAt s j → v / 2 ^ widthAt s j ≡ 0 → true ≡ roomToEnter (rowsFrom left s j) n (levelsFrom left s us g j) v
-  unfolding rowsFrom levelsFrom roomToEnter
-  room-stop zero h k e = absurd (not-suc-le-zero h)
-  room-stop (suc l) h k e = rw (yes-ltb n (entriesAt s j) k, e)
 
   pub room-on : (left : ℕ) → 1 < left → n < entriesAt s j → 0 < v / 2 ^ widthAt s j
       → roomToEnter (rowsFrom (left - 1) s (j + 1)) (ones (g % 2 ^ entriesAt s j)) (levelsFrom (left - 1) s us (g / 2 ^ entriesAt s j) (j + 1)) (v / 2 ^ widthAt s j)
@@ -172,16 +144,6 @@ pub marks-lt : (m a b n k : ℕ) → m < 2 ^ n → a ≤ n → b < 2 → n < k �
 marks-lt m a b n k h l f p =
     let i : m < 2 ^ (k - 1) = lt-of-lt-of-le h (pow-mono {i = n} {j = k - 1} (omega arith)) in
     putIn-lt k 1 m a b i (rw one-mul (omega arith)) f
-
-pub shifted-lt : (g k : ℕ) → g < 2 ^ 64 → k ≤ 64 → g / 2 ^ k < 2 ^ (64 - k)
-shifted-lt g k h l = let e : 64 - k + k ≡ 64 = omega arith in shr-lt (64 - k) k (rw e h)
-
-pub above-lt : (h g k b : ℕ) → h / 2 ^ b ≡ g / 2 ^ k / 2 ^ b → g < 2 ^ 64 → k + b ≤ 64 → h < 2 ^ (64 - k)
-above-lt h g k b e f l =
-    let n : ℕ = 64 - k - b in
-    let i : n + b ≡ 64 - k = omega arith in
-    let q : h / 2 ^ b < 2 ^ n = rw e (shr-lt n b (rw i (shifted-lt g k f (omega arith)))) in
-    subst (λ (m : ℕ). h < 2 ^ m) i (rw pow-add (div-lt-iff-lt-mul (pow-pos b) .0 q))
 
 module _ (s : Shape) (us : List ℕ) (g j n v : ℕ) where
   -- room in a level: an entry is free, and where the value goes on there is room in those after it

@@ -1,22 +1,19 @@
 -- Room, level by level.
 use mathlib.Core.Path.{_≡_, refl, sym, ap, _∙_}
-use mathlib.Core.Bool.{Bool, true, false, _&&_}
-use mathlib.Core.List.{List, [], _∷_}
-use Prim.Native.Nat.{ℕ, zero, suc, _+_, _-_, _*_, _/_, _%_, _^_, _≤_, _<_}
+use mathlib.Core.Bool.{Bool, true, false}
+use mathlib.Core.List.{List}
+use Prim.Native.Nat.{ℕ, zero, suc, _+_, _-_, _/_, _%_, _^_, _≤_, _<_}
 use native.Mathlib.Nat.{not-suc-le-zero, add-zero, add-assoc}
 use native.Mathlib.Numerals.{add-one, sub-one}
 use native.Mathlib.Omega.{arith}
 use lib.Count.{ones}
-use lib.Dec.{ltb, eqb, eqb·suc-zero}
+use lib.Dec.{eqb, eqb·suc-zero}
 use borrow.Author.Tests.{lt-ltb, le-ltb}
 use Rattle.model.specs.Lists.{byMark}
 use Rattle.rooms.specs.Growth.{roomToEnter}
 use Rattle.uppers.specs.Uppers.{rowsBy, levelsBy, Ahead}
 use Rattle.uppers.proofs.Uppers.{ahead-on, ahead-last}
 use Rattle.rooms.specs.Rooms.{roomBy}
-
-by-none : (v : ℕ) (b : Bool) → v ≡ 0 → byMark v true b ≡ true
-by-none v b e = rw e
 
 by-some : (v : ℕ) (b : Bool) → (v ≡ 0 → ⊥) → byMark v true b ≡ b
 by-some zero b f = absurd (f refl)

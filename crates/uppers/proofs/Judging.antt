@@ -67,10 +67,6 @@ filled-cells : (w left x m : ℕ) → left ≡ 0 → 0 < x → filled w left x m
 unfolding filled
 filled-cells w left x m e h = rw (e, mul-zero, le-ltb x 1 h)
 
-filled-marks : (w left x m : ℕ) → left ≡ 0 → x ≡ 0 → 0 < m → filled w left x m ≡ false
-unfolding filled
-filled-marks w left x m e f h = rw (e, f, mul-zero, le-ltb m 1 h)
-
 filled-none : (w left x m : ℕ) → left ≡ 0 → x ≡ 0 → m ≡ 0 → filled w left x m ≡ true
 unfolding filled
 filled-none w left x m e f g = rw (e, f, g, mul-zero)
@@ -122,9 +118,6 @@ module _ {w n cells marks total x m left : ℕ} (g : Judging w n cells marks tot
 
   pub high-cells : left ≡ 0 → 0 < x → Unsound ≡ found
   high-cells e h = rw (g .same, filled-cells w left x m e h)
-
-  pub high-marks : left ≡ 0 → x ≡ 0 → 0 < m → Unsound ≡ found
-  high-marks e f h = rw (g .same, filled-marks w left x m e f h)
 
   pub all-judged : left ≡ 0 → x ≡ 0 → m ≡ 0 → Sound total ≡ found
   all-judged e f h =

@@ -1,20 +1,19 @@
 -- The upper levels in the words of a wall, judged one by one.
-use mathlib.Core.Path.{_≡_, refl, sym, ap, ap₂, _∙_}
+use mathlib.Core.Path.{_≡_, refl, sym, _∙_}
 use mathlib.Core.Bool.{Bool, true, false, _&&_}
 use mathlib.Core.List.{List, [], _∷_}
 use Prim.Native.Nat.{ℕ, zero, suc, _+_, _-_, _*_, _/_, _%_, _^_, _≤_, _<_, zero-le}
-use native.Mathlib.Nat.{zero-mul, zero-add, zero-div, zero-mod, add-zero, mul-zero, div-one, add-mul, mul-assoc, mul-comm, add-comm, mul-le-mul-right, not-suc-le-zero, mod-eq-of-lt, mod-lt, zero-lt-suc}
+use native.Mathlib.Nat.{zero-mul, zero-add, zero-div, zero-mod, add-zero, mul-zero, div-one, add-mul, mul-assoc, mul-comm, mul-le-mul-right, not-suc-le-zero, zero-lt-suc}
 use native.Mathlib.Numerals.{add-one, sub-one}
 use native.Mathlib.Omega.{arith}
 use lib.Dec.{T, leb, ltb, eqb, ltb→lt, eqb·suc-zero}
 use lib.ListN.{getD}
 use lib.Pow.{pow-add, pow-pos, pow-mono, shr-shr, split}
 use lib.Count.{ones}
-use borrow.Author.Tests.{le-leb, lt-leb, le-ltb, lt-ltb}
+use borrow.Author.Tests.{le-leb, lt-leb, le-ltb}
 use Rattle.model.specs.Lists.{sum, every}
 use Rattle.model.specs.Packed.{unpack, entry, bit, rank}
-use Rattle.model.specs.Shapes.{Row}
-use Rattle.model.specs.Levels.{Level, soundLevels}
+use Rattle.model.specs.Levels.{soundLevels}
 use Rattle.model.proofs.Packing.{rank-all}
 use Rattle.model.proofs.Tools.{and-tests}
 use Rattle.uppers.specs.declared.Judged.{Judged}
@@ -85,9 +84,6 @@ rank-none zero = refl
 rank-none (suc n) = omega (arith, rank-none n)
 
 module _ (ws : List ℕ) (at g e w n : ℕ) where
-  abbrev cell : ℕ
-  cell = getD ws at 0
-
   -- the last one
   last-sound : n ≤ e % 256 → soundBy 1 ws at g e w n ≡ filled (w % 256) n (getD ws at 0) 0 && eqb g 0
   unfolding soundBy soundLevels rowsBy levelsBy marksBy filled
