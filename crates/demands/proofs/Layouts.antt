@@ -1,6 +1,6 @@
 -- The parts of a count, which counters use a level, the bits of a counter, and the bytes of an image.
 use mathlib.Core.Logic.{_↔_}
-use mathlib.Core.Path.{_≡_, sym, ap, ap₂, subst, _∙_}
+use mathlib.Core.Path.{_≡_, refl, sym, ap, ap₂, subst, _∙_}
 use mathlib.Core.Bool.{false, not}
 use mathlib.Core.List.{List}
 use Prim.Native.Nat.{ℕ, suc, _+_, _*_, _^_, _≤_, _<_}
@@ -19,7 +19,8 @@ use Rattle.model.proofs.Lists.{getD-tab}
 use Rattle.model.proofs.Buckets.{own-coded}
 use Rattle.model.proofs.SoundWalls.{SoundWall, check-sound}
 use Rattle.model.proofs.Crowding.{T-false}
-use Rattle.model.proofs.Headers.{bucket-lt}
+use Rattle.model.proofs.Slots.{slot-bit, slot-slot}
+use Rattle.model.proofs.Headers.{flows-number, bucket-lt}
 use Rattle.model.proofs.Growth.{Wide}
 use Rattle.model.proofs.Bridge.{bump-hold, room-crowded}
 use Rattle.model.proofs.Demand2.{increment-raises}
@@ -108,6 +109,10 @@ pub layouts : Layouts
 layouts = record {
   grows = λ ws y ok l e. record { room = room ws y ok l e; carried = carried ws y ok l e };
   weighted = weighted;
+  reversed = slot-bit;
+  slot-back = slot-slot;
+  buckets = λ h l. sym (flows-number (h .bits) l);
+  shapes = (refl, refl, refl);
   counters = λ w. (omega arith, omega arith, omega arith);
   levels = levels;
   image-word = λ ws n b. image-call ws n (words-below ws b);

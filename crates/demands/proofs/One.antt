@@ -74,8 +74,8 @@ numbered rs d = record {
 
 -- ---- a call on numbers or bytes, and a call on words
 
-replied : (rs : List Refusal) (v : ℕ) → T (distinct rs) → Replies rs (reply (firstMet rs) v)
-replied rs v d = record { number = subst (Numbered rs) (sym (same (firstMet rs))) (numbered rs d); value = none (firstMet rs) }
+replied : (rs : List Refusal) (v : ℕ) → T (distinct rs) → Replies rs v (reply (firstMet rs) v)
+replied rs v d = record { number = subst (Numbered rs) (sym (same (firstMet rs))) (numbered rs d); value = none (firstMet rs); done = given-by (firstMet rs) }
   where
     same : (n : ℕ) → reply n v .number ≡ n
     same zero = refl
@@ -85,11 +85,16 @@ replied rs v d = record { number = subst (Numbered rs) (sym (same (firstMet rs))
     none zero h = absurd (not-suc-le-zero h)
     none (suc n) h = refl
 
-answered : (rs : List Refusal) (v : ℕ) (done ws : List ℕ) → T (distinct rs) → Answers rs ws (outcome (firstMet rs) v done ws)
+    given-by : (n : ℕ) → reply n v .number ≡ 0 → reply n v .value ≡ v
+    given-by zero e = refl
+    given-by (suc n) e = absurd (omega arith)
+
+answered : (rs : List Refusal) (v : ℕ) (done ws : List ℕ) → T (distinct rs) → Answers rs v done ws (outcome (firstMet rs) v done ws)
 answered rs v done ws d = record {
   number = subst (Numbered rs) (sym (answer-no v done ws (firstMet rs))) (numbered rs d);
   value = none (firstMet rs);
   words = same (firstMet rs);
+  done = given-by (firstMet rs);
 }
   where
     none : (n : ℕ) → 0 < outcome n v done ws .number → outcome n v done ws .value ≡ 0
@@ -99,6 +104,10 @@ answered rs v done ws d = record {
     same : (n : ℕ) → 0 < outcome n v done ws .number → outcome n v done ws .words ≡ ws
     same zero h = absurd (not-suc-le-zero h)
     same (suc n) h = refl
+
+    given-by : (n : ℕ) → outcome n v done ws .number ≡ 0 → (outcome n v done ws .value ≡ v) × (outcome n v done ws .words ≡ done)
+    given-by zero e = (refl, refl)
+    given-by (suc n) e = absurd (omega arith)
 
 -- ---- the check
 
@@ -148,6 +157,7 @@ demand-one = record {
   lookup-call = λ ws y. answered (bucketRefusals ws y) _ _ ws tt;
   increment-call = λ ws y. answered (bucketRefusals ws y ++ stepRefusals (parse ws) y) _ _ ws tt;
   check-call = checked;
+  default = λ p b m j ws. (refl, refl);
   kept = lookup-words;
   eleven = never-eleven;
 }

@@ -3,14 +3,16 @@ use mathlib.Core.Logic.{_↔_}
 use mathlib.Core.Path.{_≡_}
 use mathlib.Core.Bool.{Bool, not}
 use mathlib.Core.List.{List}
-use Prim.Native.Nat.{ℕ, suc, _+_, _*_, _^_, _≤_, _<_}
+use Prim.Native.Nat.{ℕ, suc, _+_, _-_, _*_, _^_, _≤_, _<_}
 use lib.Dec.{T}
 use lib.ListN.{length, getD}
 use Rattle.model.specs.Lists.{sum, tabulate}
+use Rattle.model.specs.Packed.{bit}
+use Rattle.model.specs.Slots.{slot}
 use Rattle.model.specs.Shapes.{rowsOf, allRows, counterBits}
 use Rattle.model.specs.Levels.{uses, partAt, start}
 use Rattle.model.specs.Growing.{incremented, hasRoom}
-use Rattle.model.specs.Walls.{Bucket, Wall, bucketsIn, parse}
+use Rattle.model.specs.Walls.{Header, Bucket, Wall, flows, bucketsIn, parse}
 use Rattle.model.specs.Sound.{flag, levelsOf, bucketAt, ownAt}
 use Rattle.model.specs.Calls.{imageCall, image, fromLevels, increment}
 use Rattle.demands.specs.DemandTwo.{Accepted, Words, bucketFor, placeFor, overflowsAt}
@@ -46,6 +48,12 @@ pub record Layouts : Type 0 where
   pub grows : (ws : List ℕ) (y : ℕ) → Accepted ws → parse ws .header .total < parse ws .header .limit → flag (bucketAt (parse ws) (bucketFor ws y)) ≡ 0 → Grows ws y
   -- a bucket's own count is the sum of the parts of its p levels, each weighted by the bits below its level
   pub weighted : (ws : List ℕ) (i a : ℕ) → a < 64 → getD (ownAt (parse ws) i) a 0 ≡ sum (tabulate (suc (length (parse ws .header .rows))) (λ d. part (parse ws) i a d * 2 ^ below (parse ws) d))
+  -- the slot of a flow is its b bits in reverse order, and the slot of its slot is the flow
+  pub reversed : (b y k : ℕ) → k < b → bit (slot b y) k ≡ bit y (b - 1 - k)
+  pub slot-back : (b y : ℕ) → y < 2 ^ b → slot b (slot b y) ≡ y
+  -- h = N / 64, and a shape has as many levels as its number
+  pub buckets : (h : Header) → 6 ≤ h .bits → bucketsIn h * 64 ≡ flows h
+  pub shapes : (suc (length (rowsOf 3)) ≡ 3) × (suc (length (rowsOf 4)) ≡ 4) × (suc (length (rowsOf 5)) ≡ 5)
   -- L of the three shapes
   pub counters : (w : ℕ) → (counterBits w (rowsOf 3) ≡ w + 17) × (counterBits w (rowsOf 4) ≡ w + 18) × (counterBits w (rowsOf 5) ≡ w + 18)
   -- a level is used by exactly the counters of a value that does not fit below it

@@ -8,15 +8,7 @@ use Rattle.model.specs.Walls.{good, flatten, parse, fresh}
 use Rattle.model.specs.Sound.{ownCounts, bucketCounts, soundBucket, countsAt, count, soundAt, holders, allCounts, soundRest}
 use Rattle.model.specs.Calls.{raise, lookup, check, holding, overflowed, moveIn, noRoom, step, increment}
 use Rattle.model.specs.Runs.{run}
-use Rattle.edges.specs.Edges.{new, times, sixteen, bucket, said, Edges}
-
--- the header's words for the limit m, the total t and the word f of J and U
-abbrev head : ℕ → ℕ → ℕ → List ℕ
-head m t f = 0x06010300014C5742 ∷ m ∷ t ∷ f ∷ []
-
--- the bucket's words when flows 0..14 have come to 2 and flow 15 to 1
-abbrev filled : ℕ → List ℕ
-filled p = 0x1000000000000000 ∷ 0x111111111111111 ∷ 0x111111111111111 ∷ 0 ∷ p ∷ []
+use Rattle.edges.specs.Edges.{new, times, sixteen, bucket, head, filled, said, Edges}
 
 -- ---- the longer runs, once each
 
@@ -58,6 +50,8 @@ edges = record {
   p7-total = ap (λ ws. getD ws 2 0) tight0;
   p7-refused = ap (λ ws. said (increment ws 15)) tight0;
   p7 = ap (λ ws. said (increment ws 15)) tight1;
+  p7-before = tight1;
+  p7-after = over1;
   p7-used = ap (λ ws. getD ws 3 0) over1;
   p8 = ap (λ ws. said (lookup ws 0) ++ said (increment ws 0)) over1;
   p9 = refl;

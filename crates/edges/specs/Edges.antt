@@ -2,7 +2,7 @@
 use mathlib.Core.Path.{_≡_}
 use mathlib.Core.List.{List, [], _∷_, _++_}
 use Prim.Native.Nat.{ℕ, _+_, _^_, _/_, _%_}
-use lib.ListN.{replicate, getD}
+use lib.ListN.{replicate, getD, set}
 use Rattle.model.specs.Lists.{tabulate}
 use Rattle.model.specs.Slots.{slot}
 use Rattle.model.specs.Calls.{Outcome, lookup, increment, check, raise}
@@ -24,6 +24,14 @@ sixteen = tabulate 15 (λ i. i) ++ tabulate 16 (λ i. i)
 abbrev pub bucket : List ℕ → List ℕ
 bucket ws = getD ws 4 0 ∷ getD ws 5 0 ∷ getD ws 6 0 ∷ getD ws 7 0 ∷ getD ws 8 0 ∷ []
 
+-- the header's words for the limit m, the total t and the word f of J and U
+abbrev pub head : ℕ → ℕ → ℕ → List ℕ
+head m t f = 0x06010300014C5742 ∷ m ∷ t ∷ f ∷ []
+
+-- the bucket's words when flows 0..14 have come to 2 and flow 15 to 1, with the packed word p
+abbrev pub filled : ℕ → List ℕ
+filled p = 0x1000000000000000 ∷ 0x111111111111111 ∷ 0x111111111111111 ∷ 0 ∷ p ∷ []
+
 -- the number and the value
 abbrev pub said : Outcome → List ℕ
 said r = r .number ∷ r .value ∷ []
@@ -44,6 +52,9 @@ pub record Edges : Type 0 where
   pub p7-total : getD (run (new 100 0 9) sixteen .words) 2 0 ≡ 31
   pub p7-refused : said (increment (run (new 100 0 9) sixteen .words) 15) ≡ 12 ∷ 0 ∷ []
   pub p7 : said (increment (run (new 100 1 74) sixteen .words) 15) ≡ 0 ∷ 2 ∷ []
+  -- all 74 words before the overflow and after it: flow 15 stands at place 60
+  pub p7-before : run (new 100 1 74) sixteen .words ≡ head 100 31 1 ++ (filled 0 ++ replicate 65 0)
+  pub p7-after : run (new 100 1 74) (sixteen ++ (15 ∷ [])) .words ≡ head 100 32 (1 + 2 ^ 16) ++ (filled (2 ^ 40) ++ (2 ^ 60 ∷ set (replicate 64 0) 60 2))
   pub p7-used : getD (run (new 100 1 74) (sixteen ++ (15 ∷ [])) .words) 3 0 ≡ 1 + 2 ^ 16
   pub p8 : said (lookup (run (new 100 1 74) (sixteen ++ (15 ∷ [])) .words) 0) ++ said (increment (run (new 100 1 74) (sixteen ++ (15 ∷ [])) .words) 0)
       ≡ 0 ∷ 2 ∷ 0 ∷ 3 ∷ []

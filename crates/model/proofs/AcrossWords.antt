@@ -19,7 +19,7 @@ pack-from b (x ∷ xs) zero = refl
 pack-from b (x ∷ xs) (suc j) = pack-from b xs j
 
 -- what stands w bits or more up is cut off
-mod-high : (h r c w : ℕ) → w ≤ c → (h * 2 ^ c + r) % 2 ^ w ≡ r % 2 ^ w
+pub mod-high : (h r c w : ℕ) → w ≤ c → (h * 2 ^ c + r) % 2 ^ w ≡ r % 2 ^ w
 mod-high h r c w k =
     let e : 2 ^ c ≡ 2 ^ (c - w) * 2 ^ w = ap (λ x. 2 ^ x) (omega arith) ∙ pow-add 2 (c - w) w in
     rw (e, ← mul-assoc) (mul-add-mod-self-right (h * 2 ^ (c - w)) (2 ^ w) r)
