@@ -2,20 +2,21 @@ use libc::STDIN_FILENO;
 use libc::STDOUT_FILENO;
 ghost use mathlib.Core.Path.{_≡_};
 ghost use mathlib.Core.List.{_++_};
-ghost use Prim.Native.Nat.{_≤_};
-ghost use lib.ListN.{length, drop};
+ghost use Prim.Native.Nat.{_≤_, _<_};
+ghost use lib.ListN.{length, take, drop};
 ghost use Rattle.libc.specs.Io.{Moved};
 ghost use Rattle.io.specs.Counts.{Counts};
 ghost use Rattle.count.specs.Program.{program};
 
-// What the program writes for what it reads: the first bytes of `out`. `main` shows that these are enough.
-fn respond(input: &[u8], out: &mut [u8]) -> usize
-    requires { ⌜ 262208 ≤ length (now out) ⌝ }
-    ensures { λ r. ⌜ (r ≡ length (program (now (input .entry)))) × (now (out .exit) ≡ program (now (input .entry)) ++ drop r (now (out .entry))) × Counts r (now (out .exit)) ⌝ }
+// What the program writes for the n bytes that it read: the first bytes of `out`. `main` shows that these are enough, and that its buffer
+// holds more than the longest input.
+fn respond(input: &[u8], n: usize, out: &mut [u8]) -> usize
+    requires { ⌜ (65536 < length (now input)) × (n ≤ length (now input)) × (262208 ≤ length (now out)) ⌝ }
+    ensures { λ r. ⌜ (r ≡ length (program (take n (now (input .entry))))) × (now (out .exit) ≡ program (take n (now (input .entry))) ++ drop r (now (out .entry))) × Counts r (now (out .exit)) ⌝ }
 {
     let mut words = [0u64; 74];
     fresh::raise(&mut words, 3, 1, 6, 100, 1);
-    lines::lines(input, &mut words, out)
+    lines::lines(&input[..n], &mut words, out)
 }
 
 // Reads until the buffer is full or the input ends: how many bytes, or -1 where a read failed.
@@ -47,7 +48,7 @@ fn main() {
     }
     let n = io::count(got, &input);
     let mut out = [0u8; 262208];
-    let written = respond(&input[..n], &mut out);
+    let written = respond(&input, n, &mut out);
     if !io::write_all(STDOUT_FILENO, &out[..written]) {
         os::fail(b"count: write");
     }

@@ -5,7 +5,7 @@ use Prim.Native.Nat.{ℕ, _+_, _≤_}
 use native.Mathlib.Nat.{le-trans}
 use native.Mathlib.Omega.{arith}
 use lib.Dec.{lit≤}
-use lib.ListN.{length, drop, length-append}
+use lib.ListN.{length, take, drop, length-append}
 use lib.Seq.{length-take-le}
 use Rattle.model.specs.Walls.{fresh}
 use Rattle.model.specs.Calls.{Outcome, raise}
@@ -30,10 +30,13 @@ raise-requires : tie.Need-raise-requires
 raise-requires c κs = search needs
 
 slice-aggregate-lines : tie.Need-slice-aggregate-lines
-slice-aggregate-lines c = search needs
+slice-aggregate-lines c = let s = c .before .before .before .before .before .before in sym (length-take-le (s .args .n) (s .args .input .now) (s .pre .1))
+
+slice-aggregate-lines-2 : tie.Need-slice-aggregate-lines-2
+slice-aggregate-lines-2 c = search needs
 
 lines-requires : tie.Need-lines-requires
-lines-requires c κs = let s = c .before .before .before .before .before .before .before in le-trans (rw (wall (c .before .before .before)) (size (s .args .input .now) raised small)) (s .pre)
+lines-requires c κs = let s = c .before .before .before .before .before .before .before .before in le-trans (rw (wall (c .before .before .before .before)) (size (take (s .args .n) (s .args .input .now)) raised small)) (s .pre .2)
 
 same-length : tie.Need-same-length
 same-length c = search needs
@@ -41,10 +44,10 @@ same-length c = search needs
 returns : tie.Need-returns
 unfolding program
 returns c =
-    let s = c .before .before .before .before .before .before .before .before .before .before .before in
+    let s = c .before .before .before .before .before .before .before .before .before .before .before .before in
     let l = c .before .before .before .lines in
-    let e = rw (wall (c .before .before .before .before .before .before .before)) at (l .ensures) in
-    let t : List ℕ = program (s .args .input .now) in
+    let e = rw (wall (c .before .before .before .before .before .before .before .before)) at (l .ensures) in
+    let t : List ℕ = program (take (s .args .n) (s .args .input .now)) in
     let n : length (l .last .1 .1 .0) ≡ length t + length (drop (l .result) (s .args .out .now)) = ap length (e .1) ∙ length-append t (drop (l .result) (s .args .out .now)) in
     let w : l .result ≤ length (l .last .1 .1 .0) = omega (arith, e .0) in
     (e .0, e .1, (w, sym (length-take-le (l .result) (l .last .1 .1 .0) w)))
@@ -56,6 +59,7 @@ respond-spec =
     slice-aggregate-raise
     raise-requires
     slice-aggregate-lines
+    slice-aggregate-lines-2
     lines-requires
     same-length
     returns)
