@@ -116,13 +116,14 @@ first-below ws h i k =
     subst (λ (b : Bucket). Below (2 ^ 64) (b .first)) (sym (bucket-at ws i (emptyBucket (readHeader ws .width) (readHeader ws .rows)) k))
     (below-take (2 ^ 64) (take n (drop (4 + i * n) ws)) (readHeader ws .width) (below-take (2 ^ 64) (drop (4 + i * n) ws) n (below-drop (2 ^ 64) ws (4 + i * n) (words-below ws h))))
 
-module _ (v : Wall) (s : SoundWall v) (i : ℕ) (li : i < bucketsIn (v .header)) where
-  pub at-counts : flag (bucketAt v i) ≡ 0 → countsAt v i ≡ ownAt v i
-  unfolding countsAt
-  at-counts e =
-      ap (λ m. bucketCounts (ownAt v i) (byMark m emptyFull (getD (v .fulls) (fullNumber (bucketAt v i)) emptyFull))) e
-      ∙ counts-none (ownAt v i) (length-own (v .header .width) (v .header .rows) (bucketAt v i))
+-- a bucket without the flag counts what its levels hold
+pub plain-counts : (v : Wall) (i : ℕ) → flag (bucketAt v i) ≡ 0 → countsAt v i ≡ ownAt v i
+unfolding countsAt
+plain-counts v i e =
+    ap (λ m. bucketCounts (ownAt v i) (byMark m emptyFull (getD (v .fulls) (fullNumber (bucketAt v i)) emptyFull))) e
+    ∙ counts-none (ownAt v i) (length-own (v .header .width) (v .header .rows) (bucketAt v i))
 
+module _ (v : Wall) (s : SoundWall v) (i : ℕ) (li : i < bucketsIn (v .header)) where
   lengths : Lengths (v .header .width) (length (v .header .rows)) (bucketAt v i)
   lengths =
       each-at (Lengths (v .header .width) (length (v .header .rows))) (v .buckets) i (emptyBucket (v .header .width) (v .header .rows)) (s .shaped .buckets)
@@ -142,7 +143,7 @@ module _ (v : Wall) (s : SoundWall v) (i : ℕ) (li : i < bucketsIn (v .header))
       let os : List ℕ = ownAt v i in
       let here : (a : ℕ) → a < 64 → getD (countsAt v i) a 0 ≡ byMark (movedAt f a) (getD os a 0) (fullCount f a) = count-at os f in
       record {
-        plain = λ e. plain-words w rs (s .limits .fine) (v .header .total) (v .header .used) (bucketAt v i) f (s .each i li) lengths ws e ∙ ap (holding w rs) (sym (at-counts e));
+        plain = λ e. plain-words w rs (s .limits .fine) (v .header .total) (v .header .used) (bucketAt v i) f (s .each i li) lengths ws e ∙ ap (holding w rs) (sym (plain-counts v i e));
         flagged = flagged-words w rs (s .limits .fine) (v .header .total) (v .header .used) (bucketAt v i) f (s .each i li) lengths ws;
         moved = λ a la e. sym (here a la ∙ ap (λ m. byMark m (getD os a 0) (fullCount f a)) e);
         unmoved = λ a la e. (none-here a la e, sym (here a la ∙ ap (λ m. byMark m (getD os a 0) (fullCount f a)) e));
@@ -276,7 +277,7 @@ module _ (v : Wall) (s : SoundWall v) (i : ℕ) (li : i < bucketsIn (v .header))
   bucket-is = go (flag (bucketAt v i)) refl (flag-le (bucketAt v i))
     where
       go : (m : ℕ) → flag (bucketAt v i) ≡ m → m ≤ 1 → bucketAt v i ≡ byMark m (holding (v .header .width) (v .header .rows) (ownAt v i)) (overflowed (holding (v .header .width) (v .header .rows) (ownAt v i)) (fullNumber (bucketAt v i)))
-      go zero e l = laid-of v s i li lo .plain e ∙ ap (holding (v .header .width) (v .header .rows)) (at-counts v s i li e)
+      go zero e l = laid-of v s i li lo .plain e ∙ ap (holding (v .header .width) (v .header .rows)) (plain-counts v i e)
       go (suc zero) e l = laid-of v s i li lo .flagged e
       go (suc (suc m)) e l = absurd (omega arith)
 

@@ -15,7 +15,7 @@ use Rattle.model.proofs.Refusals.{first-clear, answer-done}
 use Rattle.model.proofs.Demand2.{increment-raises, lookup-count}
 use Rattle.demands.specs.DemandTwo.{Accepted, Words, Raised, Laid, Alike, Agree, DemandTwo}
 use Rattle.demands.proofs.Own.{own-raised}
-use Rattle.demands.proofs.Laid.{number-none, words-below, first-below, full-below, at-counts, in-both, counts-alike, laid-of, walls-alike}
+use Rattle.demands.proofs.Laid.{number-none, words-below, first-below, full-below, plain-counts, in-both, counts-alike, laid-of, walls-alike}
 
 laid : (ws : List ℕ) → Words ws → Accepted ws → (i : ℕ) → i < bucketsIn (parse ws .header) → Laid (parse ws) i
 laid ws h ok i li = laid-of (parse ws) (check-sound ws .0 ok .1) i li (first-below ws h i li)
@@ -42,7 +42,7 @@ agree-plain ws us ok good a =
     record {
       header = a .header;
       numbers = λ i l. number-none (s .each i l) (a .plain i l .0) ∙ sym (number-none (r .each i (both i l)) (a .plain i l .1));
-      own = λ i l. sym (at-counts v s i l (a .plain i l .0)) ∙ counts-alike v u s r (a .header) (a .counts) i l ∙ at-counts u r i (both i l) (a .plain i l .1);
+      own = λ i l. sym (plain-counts v i (a .plain i l .0)) ∙ counts-alike v u s r (a .header) (a .counts) i l ∙ plain-counts u i (a .plain i l .1);
       counts = a .counts;
     }
 

@@ -1,4 +1,5 @@
--- What the scheme and the layout say beside demand 2: how a bucket grows, the parts of a count, which counters use a level, the bits of a counter, and the bytes of an image.
+-- What the scheme and the layout say beside demand 2: how a bucket grows, the parts of a count, where a flow stands, which counters use a level, and
+-- the bytes of an image.
 use mathlib.Core.Logic.{_↔_}
 use mathlib.Core.Path.{_≡_}
 use mathlib.Core.Bool.{Bool, not}
@@ -13,9 +14,9 @@ use Rattle.model.specs.Shapes.{rowsOf, allRows, counterBits}
 use Rattle.model.specs.Levels.{uses, partAt, start}
 use Rattle.model.specs.Growing.{incremented, hasRoom}
 use Rattle.model.specs.Walls.{Header, Bucket, Wall, flows, bucketsIn, parse}
-use Rattle.model.specs.Sound.{flag, levelsOf, bucketAt, ownAt}
-use Rattle.model.specs.Calls.{imageCall, image, fromLevels, increment}
-use Rattle.demands.specs.DemandTwo.{Accepted, Words, bucketFor, placeFor, overflowsAt}
+use Rattle.model.specs.Sound.{flag, levelsOf, bucketAt, ownAt, soundAt}
+use Rattle.model.specs.Calls.{Clear, imageCall, image, bucketRefusals, fromLevels, increment}
+use Rattle.demands.specs.DemandTwo.{Words, bucketFor, placeFor, overflowsAt}
 
 -- in bucket i the counter at place a has an entry d levels above the first
 abbrev pub UsesLevel : Wall → ℕ → ℕ → ℕ → Type 0
@@ -25,16 +26,16 @@ UsesLevel v i a d = T (uses (allRows (v .header .width) (v .header .rows)) (leve
 abbrev pub below : Wall → ℕ → ℕ
 below v d = start (allRows (v .header .width) (v .header .rows)) d
 
+-- the part of the counter at place a in that level, 0 where it has none
+abbrev pub part : Wall → ℕ → ℕ → ℕ → ℕ
+part v i a d = partAt (allRows (v .header .width) (v .header .rows)) (levelsOf (v .header .rows) (bucketAt v i)) a d
+
 -- the document's rule at place a of bucket i: whether the next level has room, and the bucket after one more
 abbrev pub roomToCarry : Wall → ℕ → ℕ → Bool
 roomToCarry v i a = hasRoom (allRows (v .header .width) (v .header .rows)) 64 (levelsOf (v .header .rows) (bucketAt v i)) a
 
 abbrev pub carriedIn : Wall → ℕ → ℕ → Bucket
 carriedIn v i a = fromLevels (v .header .width) (v .header .rows) (incremented (allRows (v .header .width) (v .header .rows)) (levelsOf (v .header .rows) (bucketAt v i)) a) 0 0
-
--- the part of that counter there, 0 where it has none
-abbrev pub part : Wall → ℕ → ℕ → ℕ → ℕ
-part v i a d = partAt (allRows (v .header .width) (v .header .rows)) (levelsOf (v .header .rows) (bucketAt v i)) a d
 
 -- how flow y of these words grows, its bucket having no flag: its levels have room exactly where the level that its counter would come into
 -- has an entry free; then one is added to the lowest part and carried, entries and marks moving together
@@ -44,8 +45,8 @@ pub record Grows (ws : List ℕ) (y : ℕ) : Type 0 where
       → bucketAt (parse (increment ws y .words)) (bucketFor ws y) ≡ carriedIn (parse ws) (bucketFor ws y) (placeFor ws y)
 
 pub record Layouts : Type 0 where
-  -- the document's rule of an increment, on a wall that the check accepts, where number 10 is not met
-  pub grows : (ws : List ℕ) (y : ℕ) → Accepted ws → parse ws .header .total < parse ws .header .limit → flag (bucketAt (parse ws) (bucketFor ws y)) ≡ 0 → Grows ws y
+  -- the document's rule of an increment, where none of 7 to 10 is met
+  pub grows : (ws : List ℕ) (y : ℕ) → Clear (bucketRefusals ws y) → parse ws .header .total < parse ws .header .limit → flag (bucketAt (parse ws) (bucketFor ws y)) ≡ 0 → Grows ws y
   -- a bucket's own count is the sum of the parts of its p levels, each weighted by the bits below its level
   pub weighted : (ws : List ℕ) (i a : ℕ) → a < 64 → getD (ownAt (parse ws) i) a 0 ≡ sum (tabulate (suc (length (parse ws .header .rows))) (λ d. part (parse ws) i a d * 2 ^ below (parse ws) d))
   -- the slot of a flow is its b bits in reverse order, and the slot of its slot is the flow
@@ -56,8 +57,8 @@ pub record Layouts : Type 0 where
   pub shapes : (suc (length (rowsOf 3)) ≡ 3) × (suc (length (rowsOf 4)) ≡ 4) × (suc (length (rowsOf 5)) ≡ 5)
   -- L of the three shapes
   pub counters : (w : ℕ) → (counterBits w (rowsOf 3) ≡ w + 17) × (counterBits w (rowsOf 4) ≡ w + 18) × (counterBits w (rowsOf 5) ≡ w + 18)
-  -- a level is used by exactly the counters of a value that does not fit below it
-  pub levels : (ws : List ℕ) → Accepted ws → (i : ℕ) → i < bucketsIn (parse ws .header) → (a d : ℕ) → d < length (parse ws .header .rows)
+  -- in a sound bucket a level is used by exactly the counters of a value that does not fit below it
+  pub levels : (ws : List ℕ) (i : ℕ) → T (soundAt (parse ws) i) → (a d : ℕ) → d < length (parse ws .header .rows)
       → UsesLevel (parse ws) i a (suc d) ↔ (2 ^ below (parse ws) (suc d) ≤ getD (ownAt (parse ws) i) a 0)
   -- reading word n of the image of words gives that word, and 6 from their number on
   pub image-word : (ws : List ℕ) (n : ℕ) → Words ws → n < length ws → imageCall (image ws) n ≡ record { number = 0; value = getD ws n 0 }

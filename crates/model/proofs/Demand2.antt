@@ -152,6 +152,7 @@ named ws y = (lit< tt, (lit< tt, (lit< tt, (lit< tt, (lit< tt, (lit< tt, tt)))))
 
 -- the walls that follow one another
 pub record Follows (ws : List ℕ) (y : ℕ) (r : Outcome) : Type 0 where
+  pub clear : Clear (bucketRefusals ws y ++ stepRefusals (parse ws) y)
   pub flow : y < flows (parse ws .header)
   pub free : (s : SoundWall (parse ws)) → Free (parse ws) y s 1
   pub same : r ≡ record { number = 0; value = count (parse ws) y + 1; words = flatten (raisedBy (parse ws) y 1) }
@@ -163,6 +164,7 @@ follows ws y e =
     let z : n ≡ 0 = sym (answer-no (count (parse ws) y + 1) (flatten (raisedBy (parse ws) y 1)) ws n) ∙ e in
     let c = clear-first (bucketRefusals ws y ++ stepRefusals (parse ws) y) (named ws y) z in
     record {
+      clear = c;
       flow = nleb→lt (flows (parse ws .header)) y (c .1 .0);
       free = λ s. free-of (parse ws) y s (c .1 .1 .1);
       same = answer-done (count (parse ws) y + 1) (flatten (raisedBy (parse ws) y 1)) ws n z;
