@@ -3,10 +3,8 @@ use mathlib.Core.Path.{_≡_, sym, ap, _∙_}
 use mathlib.Core.List.{List, _++_}
 use Prim.Native.Nat.{ℕ, _+_, _<_}
 use lib.Dec.{lit<}
-use lib.ListN.{getD}
-use Rattle.model.specs.Lists.{byMark}
-use Rattle.model.specs.Walls.{Full, Wall, bucketsIn, withTotals, flatten, parse, emptyFull}
-use Rattle.model.specs.Sound.{flag, fullNumber, movedAt, bucketAt, fullFor, count}
+use Rattle.model.specs.Walls.{Wall, bucketsIn, withTotals, flatten, parse}
+use Rattle.model.specs.Sound.{count}
 use Rattle.model.specs.Calls.{Clear, Outcome, firstMet, bucketRefusals, stepRefusals, raisedBy, lookup, increment}
 use Rattle.model.proofs.Lists.{below-at}
 use Rattle.model.proofs.Parsing.{flatten-parse}
