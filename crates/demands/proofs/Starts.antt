@@ -5,7 +5,6 @@ use Prim.Native.Nat.{ℕ, _<_}
 use Rattle.model.specs.Walls.{Header, flows, readHeader}
 use Rattle.model.specs.Calls.{asked, raise, close, lookup}
 use Rattle.model.specs.Runs.{run}
-use Rattle.model.proofs.Starts.{raised-words, closed-words}
 use Rattle.demands.specs.DemandThree.{Listed, After}
 use Rattle.demands.specs.Beginnings.{Beginnings}
 use Rattle.demands.proofs.Two.{demand-two}
@@ -21,8 +20,6 @@ fresh-reads h ws l y m =
 
 pub beginnings : Beginnings
 beginnings = record {
-  raised = raised-words;
-  closed = closed-words;
   raised-reads = λ p w b m j ws e. fresh-reads (asked p w b m j) (raise p w b m j ws .words) (demand-three .raised p w b m j ws e);
   closed-reads = λ ws e. fresh-reads (readHeader ws) (close ws .words) (demand-three .closed ws e);
 }
