@@ -1,16 +1,18 @@
 /*
- * The counter store's calls for C.
+ * The counter store's calls for C, on x86-64 Linux. docs/WALL.md has each word of a wall; docs/TRUST.md says what is proved of the calls.
  *
- * wall_slot, wall_limits and wall_image are the host's: where a flow stands, how far a counter goes, one word of an image. Link with libhost.a.
- * wall_raise, wall_lookup, wall_increment, wall_check and wall_close are the card's: the calls over a wall. Link with libcard.a. (x86-64 Linux.)
+ *     libhost.a  wall_slot, wall_limits, wall_image: where a flow stands, how far a counter goes, one word of an image.
+ *     libcard.a  wall_raise, wall_lookup, wall_increment, wall_check, wall_close: the calls over a wall. It uses memcpy and memset.
+ *
+ * `rt staticlib host` and `rt staticlib card` build them into target/staticlib/. A program may link either or both.
  *
  * No call allocates, keeps a pointer or has a state of its own. Each answers a number and a value. The number is WALL_DONE, or says why the call was
- * refused; where several reasons apply, it is the first of them in the order of the enum below. A refusal changes no word, and its value is 0, but for
- * the number of the bucket that comes with wall_check's WALL_UNSOUND. Every argument is judged at its full 64 bits.
+ * refused; where several reasons apply, it is the first of them in the order in which the call's comment names them. A refusal changes no word, and its
+ * value is 0, but for the bucket that comes with wall_check's WALL_UNSOUND. Every argument is judged at its full 64 bits.
  *
- * Each of the card's calls keeps within 2 KiB of stack; docs/WALL.md has the bytes measured.
- *
- * Two calls over one wall at the same time are the caller's to prevent, unless both only read.
+ * The caller keeps this: `words` is as aligned as a uint64_t is, on 8 bytes, and all `length` words can be read, and written by a call that takes them
+ * without const; with length 0 it may be NULL. Two calls over one wall at the same time are the caller's to prevent, unless both only read. The stack
+ * has WALL_STACK bytes left for a call; docs/WALL.md has the bytes that each takes, as measured.
  */
 #ifndef WALL_H
 #define WALL_H
@@ -22,6 +24,7 @@
 extern "C" {
 #endif
 
+/* The numbers. 6 has a name for each of the two calls that give it: a switch over the answers of both has one case for them. */
 enum {
     WALL_DONE = 0,
     WALL_BAD_SHAPE = 1,    /* the shape is not 3, 4 or 5 */
@@ -31,13 +34,41 @@ enum {
     WALL_BAD_FULL = 5,     /* more full-size buckets than buckets, or than 4,096 */
     WALL_NO_WORD = 6,      /* wall_image: the word is not in the image */
     WALL_BAD_LENGTH = 6,   /* wall_raise: the length is not exact */
-    WALL_BAD_HEADER = 7,   /* the words are no wall: too few, or a header that is not good */
+    WALL_BAD_HEADER = 7,   /* the words are no wall: too few or too many, or a header that is not good */
     WALL_NO_FLOW = 8,      /* the flow is not below 2^bits */
-    WALL_UNSOUND = 9,      /* the bucket is damaged */
+    WALL_UNSOUND = 9,      /* the bucket is not sound */
     WALL_AT_LIMIT = 10,    /* the total stands at its limit */
     WALL_NO_FULL = 12,     /* the bucket must overflow, and all full-size buckets are in use */
     WALL_UNSOUND_WALL = 13 /* every bucket is sound, the wall is not */
 };
+
+/* The limits on what a wall is raised with, both ends included. Every call takes fewer bytes of stack than WALL_STACK. */
+enum {
+    WALL_MIN_SHAPE = 3,
+    WALL_MAX_SHAPE = 5,
+    WALL_MIN_WIDTH = 1, /* or 0, which is read as the default */
+    WALL_MAX_WIDTH = 16,
+    WALL_DEFAULT_WIDTH = 7,
+    WALL_MIN_BITS = 6,
+    WALL_MAX_BITS = 22,
+    WALL_MAX_FULL = 4096, /* and at most WALL_BUCKETS(bits) */
+    WALL_STACK = 2048
+};
+
+/*
+ * Constant expressions, for arrays and assertions. The arguments are within the limits above, the width by number: 0 would count as 0 here.
+ *
+ *     WALL_BUCKETS    the buckets of a wall, 64 flows each
+ *     WALL_WORDS      the words of a wall, for wall_raise exactly these: static uint64_t words[WALL_WORDS(3, 7, 16, 64)];
+ *     WALL_MAX_LIMIT  the largest limit on the total, 2^L - 1, which is the largest count too
+ */
+#define WALL_BUCKETS(bits) ((uint64_t)1 << ((bits) - 6))
+#define WALL_WORDS(shape, width, bits, full) (4 + WALL_BUCKETS(bits) * ((uint64_t)(width) + (shape) + 1) + 65 * (uint64_t)(full))
+#define WALL_MAX_LIMIT(shape, width) (((uint64_t)1 << ((width) + ((shape) == 3 ? 17 : 18))) - 1)
+
+/* Of the words of a wall with a good header: the total of accepted increments, and how many full-size buckets are in use. */
+#define WALL_TOTAL(words) ((words)[2])
+#define WALL_IN_USE(words) ((words)[3] >> 16 & 0xFFFF)
 
 typedef struct {
     uint64_t number;
@@ -72,13 +103,14 @@ wall_answer wall_limits(uint64_t shape, uint64_t width);
 wall_answer wall_image(const uint8_t *bytes, size_t length, uint64_t n);
 
 /*
- * A wall is `length` words that the caller lends: 4 + 2^(bits - 6) * (width + shape + 1) + 65 * full of them. docs/WALL.md has each word. The card's
- * calls read and write nothing beyond them. Any words may be lent, and any flow number asked for.
+ * A wall is `length` words that the caller lends. The card's calls read and write nothing beyond them. Any words may be lent, and any flow number asked
+ * for: words that are no wall are refused.
  */
 
 /*
- * A fresh wall in the words: every word is written, whatever stood there. `limit` is the largest total, from 1 to 2^L - 1 (L as in wall_limits);
- * `full` is how many full-size buckets it has, at most 2^(bits - 6) and at most 4,096. Width 0 asks for the default and is read as 7.
+ * A fresh wall in the words: every word is written, whatever stood there. Width 0 asks for the default: it is read, and stored, as 7. There are exactly
+ * WALL_WORDS(shape, width, bits, full) words, with this width. `limit` is the largest total of all flows together, from 1 to 2^L - 1 (L as in
+ * wall_limits); `full` is how many full-size buckets the wall has, at most 2^(bits - 6) and at most 4,096.
  *
  * Answers WALL_DONE and 0, or WALL_BAD_SHAPE, WALL_BAD_WIDTH, WALL_BAD_BITS, WALL_BAD_LIMIT, WALL_BAD_FULL or WALL_BAD_LENGTH.
  */
@@ -101,12 +133,12 @@ wall_answer wall_increment(uint64_t *words, size_t length, uint64_t flow);
 /*
  * The whole wall judged.
  *
- * Answers WALL_DONE and 0, WALL_BAD_HEADER, WALL_UNSOUND and the lowest bucket that is damaged, or WALL_UNSOUND_WALL.
+ * Answers WALL_DONE and 0, WALL_BAD_HEADER, WALL_UNSOUND and the lowest bucket that is not sound, counted from 0, or WALL_UNSOUND_WALL.
  */
 wall_answer wall_check(const uint64_t *words, size_t length);
 
 /*
- * The interval ends: the fresh wall of the same header, which is all that has to be good.
+ * The interval ends: the fresh wall of the same shape, width, bits, limit and full-size buckets. The header alone has to be good.
  *
  * Answers WALL_DONE and 0, or WALL_BAD_HEADER.
  */

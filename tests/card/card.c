@@ -1,6 +1,6 @@
 /*
- * The card's calls from C: the worked example of docs/WALL.md, word by word, then each of the five calls accepted and refused. A check that fails
- * prints the line, what was expected and what came; then the exit status is 1.
+ * The card's calls from C: the worked example of docs/WALL.md, word by word, each of the five calls accepted and refused, and the header's sizes and limits,
+ * both sides of each. A check that fails prints the line, what was expected and what came; then the exit status is 1.
  */
 #include "wall.h"
 
@@ -8,7 +8,11 @@
 #include <stdio.h>
 #include <string.h>
 
-enum { LENGTH = 9, A1 = 4, I1, A2, A3, PACKED };
+enum { LENGTH = WALL_WORDS(3, 1, 6, 0), FULL_LENGTH = WALL_WORDS(3, 1, 6, 1), A1 = 4, I1, A2, A3, PACKED, MOVED };
+
+_Static_assert(LENGTH == 9 && FULL_LENGTH == 74, "the worked example");
+_Static_assert(WALL_WORDS(WALL_MAX_SHAPE, WALL_MAX_WIDTH, WALL_MAX_BITS, WALL_MAX_FULL) == 1708036, "the largest wall");
+_Static_assert(WALL_MAX_LIMIT(3, WALL_DEFAULT_WIDTH) == 16777215 && WALL_MAX_LIMIT(5, 16) == UINT64_C(17179869183), "as docs/WALL.md has them");
 
 static unsigned long checks, failures;
 
@@ -27,38 +31,70 @@ static void judge(int line, wall_answer came, uint64_t number, uint64_t value)
     same(line, "value", came.value, value);
 }
 
-static void bucket(int line, const uint64_t *words, uint64_t a1, uint64_t i1, uint64_t a2)
+static void bucket(int line, const uint64_t *words, uint64_t a1, uint64_t i1, uint64_t a2, uint64_t a3, uint64_t packed)
 {
     same(line, "A1", words[A1], a1);
     same(line, "I1", words[I1], i1);
     same(line, "A2", words[A2], a2);
-    same(line, "A3", words[A3], 0);
-    same(line, "packed", words[PACKED], 0);
+    same(line, "A3", words[A3], a3);
+    same(line, "packed", words[PACKED], packed);
 }
 
 #define JUDGE(call, number, value) judge(__LINE__, call, number, value)
-#define BUCKET(words, a1, i1, a2) bucket(__LINE__, words, a1, i1, a2)
+#define SAME(what, came, expected) same(__LINE__, what, came, expected)
+#define BUCKET(words, a1, i1, a2, a3, packed) bucket(__LINE__, words, a1, i1, a2, a3, packed)
+
+/* A flow comes from one count to another. */
+static void rises(uint64_t *words, size_t length, uint64_t flow, uint64_t from, uint64_t to)
+{
+    for (uint64_t count = from + 1; count <= to; count++)
+        JUDGE(wall_increment(words, length, flow), WALL_DONE, count);
+    JUDGE(wall_lookup(words, length, flow), WALL_DONE, to);
+    JUDGE(wall_check(words, length), WALL_DONE, 0);
+}
 
 static void worked_example(uint64_t *words)
 {
-    const uint64_t place_of_1 = UINT64_C(1) << 32, place_of_2 = UINT64_C(1) << 16;
+    const uint64_t place_of_1 = UINT64_C(1) << 32, place_of_2 = UINT64_C(1) << 16, both = place_of_1 | place_of_2;
 
     JUDGE(wall_raise(words, LENGTH, 3, 1, 6, 100, 0), WALL_DONE, 0);
-    same(__LINE__, "word 0", words[0], UINT64_C(0x06010300014C5742));
-    BUCKET(words, 0, 0, 0);
-    JUDGE(wall_increment(words, LENGTH, 1), WALL_DONE, 1);
-    JUDGE(wall_increment(words, LENGTH, 1), WALL_DONE, 2);
-    BUCKET(words, 0, place_of_1, 1);
-    JUDGE(wall_increment(words, LENGTH, 2), WALL_DONE, 1);
-    JUDGE(wall_increment(words, LENGTH, 2), WALL_DONE, 2);
-    BUCKET(words, 0, place_of_1 | place_of_2, 0x11);
-    for (uint64_t count = 3; count <= 5; count++)
-        JUDGE(wall_increment(words, LENGTH, 1), WALL_DONE, count);
-    BUCKET(words, place_of_1, place_of_1 | place_of_2, 0x21);
-    JUDGE(wall_lookup(words, LENGTH, 1), WALL_DONE, 5);
-    JUDGE(wall_lookup(words, LENGTH, 2), WALL_DONE, 2);
-    JUDGE(wall_lookup(words, LENGTH, 3), WALL_DONE, 0);
-    JUDGE(wall_check(words, LENGTH), WALL_DONE, 0);
+    rises(words, LENGTH, 1, 0, 31);
+    BUCKET(words, place_of_1, place_of_1, 15, 0, 0);
+    rises(words, LENGTH, 1, 31, 32);
+    BUCKET(words, 0, place_of_1, 0, 1, 1);
+    rises(words, LENGTH, 2, 0, 2);
+    BUCKET(words, 0, both, 1, 1, 2);
+
+    JUDGE(wall_raise(words, LENGTH, 3, 1, 6, 100, 0), WALL_DONE, 0);
+    SAME("word 0", words[0], UINT64_C(0x06010300014C5742));
+    BUCKET(words, 0, 0, 0, 0, 0);
+    rises(words, LENGTH, 1, 0, 2);
+    BUCKET(words, 0, place_of_1, 1, 0, 0);
+    rises(words, LENGTH, 2, 0, 2);
+    BUCKET(words, 0, both, 0x11, 0, 0);
+    rises(words, LENGTH, 1, 2, 5);
+    BUCKET(words, place_of_1, both, 0x21, 0, 0);
+    SAME("total", WALL_TOTAL(words), 7);
+}
+
+static void overflow(void)
+{
+    static uint64_t words[FULL_LENGTH];
+    const uint64_t sixteenth = UINT64_C(1) << 60, others = UINT64_C(0x111111111111111), flag = UINT64_C(1) << 40;
+    JUDGE(wall_raise(words, FULL_LENGTH, 3, 1, 6, 100, 1), WALL_DONE, 0);
+    for (uint64_t flow = 0; flow < 15; flow++)
+        rises(words, FULL_LENGTH, flow, 0, 2);
+    rises(words, FULL_LENGTH, 15, 0, 1);
+    BUCKET(words, sixteenth, others, others, 0, 0);
+    SAME("U", WALL_IN_USE(words), 0);
+    rises(words, FULL_LENGTH, 15, 1, 2);
+    rises(words, FULL_LENGTH, 0, 2, 3);
+    BUCKET(words, sixteenth, others, others, 0, flag);
+    SAME("moved flags", words[MOVED], sixteenth | 1);
+    SAME("place 0", words[MOVED + 1], 3);
+    SAME("place 60", words[MOVED + 1 + 60], 2);
+    SAME("total", WALL_TOTAL(words), 33);
+    SAME("U", WALL_IN_USE(words), 1);
 }
 
 /* Each refusal leaves the words as they were. */
@@ -75,7 +111,42 @@ static void refusals(uint64_t *words)
     JUDGE(wall_increment(words, 0, 1), WALL_BAD_HEADER, 0);
     JUDGE(wall_check(words, LENGTH - 1), WALL_BAD_HEADER, 0);
     JUDGE(wall_close(words, LENGTH - 1), WALL_BAD_HEADER, 0);
-    same(__LINE__, "words left", (uint64_t)memcmp(before, words, sizeof before), 0);
+    SAME("words left", (uint64_t)memcmp(before, words, sizeof before), 0);
+    JUDGE(wall_raise(NULL, 0, 3, 1, 6, 100, 0), WALL_BAD_LENGTH, 0);
+    JUDGE(wall_increment(NULL, 0, 1), WALL_BAD_HEADER, 0);
+    JUDGE(wall_check(NULL, 0), WALL_BAD_HEADER, 0);
+}
+
+/* A wall of each shape and width: as many words and as high a limit as the header says, and one more. */
+static void sizes(void)
+{
+    enum { BITS = 8, FULL = 3 };
+    static uint64_t words[WALL_WORDS(WALL_MAX_SHAPE, WALL_MAX_WIDTH, BITS, FULL) + 1];
+    for (unsigned shape = WALL_MIN_SHAPE; shape <= WALL_MAX_SHAPE; shape++)
+        for (unsigned width = WALL_MIN_WIDTH; width <= WALL_MAX_WIDTH; width++) {
+            size_t length = WALL_WORDS(shape, width, BITS, FULL);
+            uint64_t limit = WALL_MAX_LIMIT(shape, width);
+            JUDGE(wall_raise(words, length, shape, width, BITS, limit, FULL), WALL_DONE, 0);
+            JUDGE(wall_raise(words, length, shape, width, BITS, limit + 1, FULL), WALL_BAD_LIMIT, 0);
+            JUDGE(wall_raise(words, length + 1, shape, width, BITS, limit, FULL), WALL_BAD_LENGTH, 0);
+            JUDGE(wall_raise(words, length - 1, shape, width, BITS, limit, FULL), WALL_BAD_LENGTH, 0);
+        }
+    JUDGE(wall_raise(words, WALL_WORDS(3, WALL_DEFAULT_WIDTH, BITS, FULL), 3, 0, BITS, 1, FULL), WALL_DONE, 0);
+}
+
+/* One beyond each limit; with no words at all a raise within them is refused for its length. */
+static void limits(void)
+{
+    JUDGE(wall_raise(NULL, 0, WALL_MIN_SHAPE - 1, 1, 6, 1, 0), WALL_BAD_SHAPE, 0);
+    JUDGE(wall_raise(NULL, 0, WALL_MAX_SHAPE + 1, 1, 6, 1, 0), WALL_BAD_SHAPE, 0);
+    JUDGE(wall_raise(NULL, 0, 3, WALL_MAX_WIDTH + 1, 6, 1, 0), WALL_BAD_WIDTH, 0);
+    JUDGE(wall_raise(NULL, 0, 3, 1, WALL_MIN_BITS - 1, 1, 0), WALL_BAD_BITS, 0);
+    JUDGE(wall_raise(NULL, 0, 3, 1, WALL_MAX_BITS + 1, 1, 0), WALL_BAD_BITS, 0);
+    for (unsigned bits = WALL_MIN_BITS; bits <= WALL_MAX_BITS; bits++) {
+        uint64_t most = WALL_BUCKETS(bits) < WALL_MAX_FULL ? WALL_BUCKETS(bits) : WALL_MAX_FULL;
+        JUDGE(wall_raise(NULL, 0, 3, 1, bits, 1, most), WALL_BAD_LENGTH, 0);
+        JUDGE(wall_raise(NULL, 0, 3, 1, bits, 1, most + 1), WALL_BAD_FULL, 0);
+    }
 }
 
 static void damage(uint64_t *words)
@@ -88,7 +159,7 @@ static void damage(uint64_t *words)
     JUDGE(wall_increment(words, LENGTH, 1), WALL_UNSOUND, 0);
     JUDGE(wall_check(words, LENGTH), WALL_UNSOUND, 0);
     JUDGE(wall_close(words, LENGTH), WALL_DONE, 0);
-    BUCKET(words, 0, 0, 0);
+    BUCKET(words, 0, 0, 0, 0, 0);
     JUDGE(wall_check(words, LENGTH), WALL_DONE, 0);
 }
 
@@ -99,6 +170,9 @@ int main(void)
     worked_example(words);
     refusals(words);
     damage(words);
+    overflow();
+    sizes();
+    limits();
     printf("card: %lu checks, %lu failed\n", checks, failures);
     return failures != 0;
 }

@@ -3,7 +3,7 @@
 //! Shape 3, w1 1, b 6, M 100, J 0 unless said. A wall of these is four words of header, then A1, I1, A2, A3 and the packed word.
 
 use crate::archive;
-use crate::pen::Pen;
+use crate::pen::{self, Pen};
 use crate::store::{self, Answer};
 
 /// The first word of the bucket, and of full-size bucket 0.
@@ -278,6 +278,7 @@ pub fn hold() -> bool {
     let mut failed = false;
     for (name, run) in ROWS {
         for store in [&PLAIN, &ARCHIVE] {
+            pen::crashes_name(format!("edges row `{name}` on {}", store.name));
             let mut row = Row { store, name, failed: false };
             run(&mut row, &mut pen);
             failed |= row.failed;

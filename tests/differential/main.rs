@@ -2,10 +2,11 @@
 //!
 //!     differential [SEED [PART CASE]]
 //!
-//! The first disagreement ends the run with status 1, the seed, the case and the words. Every slice given to the archive touches an unreadable page, and in one case
-//! out of eight it is read-only while lookup and check run.
+//! The first disagreement ends the run with status 1, the seed, the case and the words; a crash, with the case, or with the edge's row and the store.
+//! Every slice given to the archive touches an unreadable page, and in one case out of eight it is read-only while lookup and check run.
 
 mod archive;
+mod corners;
 mod edges;
 mod met;
 mod parts;
@@ -85,7 +86,13 @@ impl Run {
         self.rng = Rng::new(self.seed, part as u64, case);
         self.pens.at_end = !self.rng.one_in(4);
         self.sealed = self.rng.one_in(8);
-        pen::crashes_name(self.seed, part, case);
+        pen::crashes_name(self.name());
+    }
+
+    /// The case, and the words that run it again.
+    fn name(&self) -> String {
+        let (seed, part, case) = (self.seed, PARTS[self.part].name, self.case);
+        format!("seed {seed} part {part} case {case} (again with: {seed} {part} {case})")
     }
 
     /// Gives these words to both stores.
@@ -155,17 +162,31 @@ impl Run {
         ours
     }
 
-    /// For what both stores answer and the counts of the increments so far say otherwise.
+    /// For what both stores answer and what the wall was made from says otherwise.
     fn expect(&mut self, call: Call, found: Answer, expected: Answer) {
         if found != expected {
-            println!("differential: the two stores agree, and the increments so far say {expected:?}");
+            println!("differential: the two stores agree, and the answer should be {expected:?}");
             self.disagree(call, found, found);
         }
     }
 
+    /// Makes a call whose answer is known.
+    fn answers(&mut self, call: Call, expected: Answer) {
+        let found = self.call(call);
+        self.expect(call, found, expected);
+    }
+
+    /// Makes a call whose answer is known, and every word that it leaves.
+    fn leaves(&mut self, call: Call, expected: Answer, words: &[u64]) {
+        self.answers(call, expected);
+        if let Some(i) = (0..words.len()).find(|i| self.ours[*i] != words[*i]) {
+            println!("differential: the two stores agree, and word {i} should be {:016x}, not {:016x}", words[i], self.ours[i]);
+            self.disagree(call, expected, expected);
+        }
+    }
+
     fn disagree(&mut self, call: Call, ours: Answer, theirs: Answer) -> ! {
-        let part = PARTS[self.part].name;
-        println!("differential: disagreement: seed {} part {} case {} (again with: {} {} {})", self.seed, part, self.case, self.seed, part, self.case);
+        println!("differential: disagreement: {}", self.name());
         println!("call {call:?} on {} words", self.ours.len());
         println!("answers: store.rs {ours:?}, the archive {theirs:?}");
         if !matches!(call, Call::Slot { .. } | Call::Limits { .. } | Call::Image { .. }) {

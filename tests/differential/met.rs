@@ -36,6 +36,16 @@ const UNSOUND: [&str; 16] = [
 /// What an increment does; the first three are told apart by level.
 const STEPS: [&str; 6] = ["enters level", "overflows at level", "12 at level", "stays in its levels", "moves a place", "raises a moved count"];
 
+/// What is met where J is 4,096: the first four in a check, the others in an increment.
+const LARGEST: [&str; 6] = [
+    "number 4,095 held twice",
+    "number 4,095 held by none",
+    "number 4,095 not below U",
+    "full-size bucket 4,095 not 0 and U 4,095",
+    "an overflow takes number 4,095",
+    "12 where 4,096 are in use",
+];
+
 #[derive(Default)]
 pub struct Met {
     numbers: [[u64; 14]; 8],
@@ -44,6 +54,10 @@ pub struct Met {
     unsound: BTreeMap<(&'static str, u64), [u64; 2]>,
     /// By shape from 3, step and level.
     steps: [[[u64; 6]; 6]; 3],
+    /// By shape from 3.
+    largest: [[u64; 6]; 3],
+    /// Walls checked whose lowest unsound bucket is the last, by shape from 3 and b from 6.
+    last: [[u64; 17]; 3],
 }
 
 fn plan_of(words: &[u64]) -> Plan {
@@ -89,6 +103,7 @@ impl Met {
             }
             Finding::Bucket(_, reasons) | Finding::Wall(reasons) => reasons,
         };
+        self.corners(words, finding);
         let shape = words[0] >> 40 & 0xff;
         let alone = reasons.iter().all(|reason| *reason == reasons[0]);
         for (n, reason) in reasons.iter().enumerate() {
@@ -98,6 +113,26 @@ impl Met {
                 entry[1] += alone as u64;
             }
         }
+    }
+
+    /// An unsound wall whose header is good.
+    fn corners(&mut self, words: &[u64], finding: &Finding) {
+        let plan = plan_of(words);
+        let shape = plan.shape as usize - 3;
+        if matches!(finding, Finding::Bucket(n, _) if *n == plan.buckets() - 1) {
+            self.last[shape][plan.bits as usize - 6] += 1;
+        }
+        if plan.full != 4096 {
+            return;
+        }
+        let used = words[3] >> 16;
+        let holders: Vec<usize> = (0..plan.buckets()).filter(|n| words[plan.bucket_at(*n) + plan.packed()] >> 40 == 4095 << 8 | 1).collect();
+        let rest = words[plan.full_at(4095)..].iter().any(|word| *word != 0);
+        let met = match finding {
+            Finding::Bucket(n, _) => [false, false, used == 4095 && holders.contains(n), false],
+            _ => [holders.len() > 1, used == 4096 && holders.is_empty(), false, used == 4095 && rest],
+        };
+        self.largest[shape].iter_mut().zip(met).for_each(|(count, met)| *count += met as u64);
     }
 
     /// An increment and its wall before and after.
@@ -128,7 +163,10 @@ impl Met {
             3
         };
         let level = if step < 3 { level.unwrap_or(0) } else { 0 };
-        self.steps[plan.shape as usize - 3][step][level] += 1;
+        let shape = plan.shape as usize - 3;
+        self.steps[shape][step][level] += 1;
+        self.largest[shape][4] += (step == 1 && after[3] >> 16 == 4096) as u64;
+        self.largest[shape][5] += (step == 2 && before[3] >> 16 == 4096) as u64;
     }
 
     pub fn print(&self) {
@@ -153,6 +191,7 @@ impl Met {
                 }
             }
         }
+        self.print_corners();
         println!("\nwalls checked that are unsound for this reason, and for it alone, by shape 3, 4, 5:");
         for reason in UNSOUND {
             print!("{reason:42}");
@@ -169,6 +208,47 @@ impl Met {
         println!();
     }
 
+    fn print_corners(&self) {
+        println!("\nwhere J is 4,096, by shape 3, 4, 5:");
+        for (n, name) in LARGEST.iter().enumerate() {
+            println!("{name:42} {:>8} {:>8} {:>8}", self.largest[0][n], self.largest[1][n], self.largest[2][n]);
+        }
+        println!("\nwalls checked whose lowest unsound bucket is the last, by b from 6 to 22:");
+        for (n, counts) in self.last.iter().enumerate() {
+            print!("shape {}", n + 3);
+            counts.iter().for_each(|count| print!(" {count:>6}"));
+            println!();
+        }
+    }
+
+    /// What no wall of this shape met.
+    fn missing(&self, shape: u64) -> Vec<String> {
+        let n = shape as usize - 3;
+        let mut missing = Vec::new();
+        for level in 2..=shape as usize {
+            for step in 0..3 {
+                if self.steps[n][step][level] == 0 {
+                    missing.push(format!("no increment {} {level}", STEPS[step]));
+                }
+            }
+        }
+        for step in 3..6 {
+            if self.steps[n][step][0] == 0 {
+                missing.push(format!("no increment {}", STEPS[step]));
+            }
+        }
+        for reason in UNSOUND {
+            if self.unsound.get(&(reason, shape)).map_or(true, |counts| counts[1] == 0) {
+                missing.push(format!("no wall is unsound alone for: {reason}"));
+            }
+        }
+        let largest = (0..6).filter(|i| self.largest[n][*i] == 0).map(|i| format!("never where J is 4,096: {}", LARGEST[i]));
+        missing.extend(largest);
+        let last = (6..=22).filter(|bits| self.last[n][bits - 6] == 0).map(|bits| format!("no last bucket is unsound at b {bits}"));
+        missing.extend(last);
+        missing
+    }
+
     /// Each number that a call may give was given by it and no other, each reason to be unsound was met alone in each shape, and so on.
     pub fn covers(&self) -> bool {
         let mut missing = Vec::new();
@@ -181,23 +261,7 @@ impl Met {
             }
         }
         for shape in 3..=5 {
-            for level in 2..=shape as usize {
-                for step in 0..3 {
-                    if self.steps[shape as usize - 3][step][level] == 0 {
-                        missing.push(format!("shape {shape}: no increment {} {level}", STEPS[step]));
-                    }
-                }
-            }
-            for step in 3..6 {
-                if self.steps[shape as usize - 3][step][0] == 0 {
-                    missing.push(format!("shape {shape}: no increment {}", STEPS[step]));
-                }
-            }
-            for reason in UNSOUND {
-                if self.unsound.get(&(reason, shape)).map_or(true, |counts| counts[1] == 0) {
-                    missing.push(format!("shape {shape}: no wall is unsound alone for: {reason}"));
-                }
-            }
+            missing.extend(self.missing(shape).iter().map(|line| format!("shape {shape}: {line}")));
         }
         for reason in BAD_HEADER {
             if !self.headers.contains_key(reason) {

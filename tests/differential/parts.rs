@@ -1,6 +1,7 @@
-//! The parts of a run: which walls are made, and which calls on them.
+//! The parts of a run: which walls are made, and which calls on them. Those of the largest sizes that are not random are in corners.rs.
 
 use crate::archive;
+use crate::corners;
 use crate::store::{self, PLACES};
 use crate::walls::{self, Plan, Rng, Wall};
 use crate::{Call, Run};
@@ -25,6 +26,9 @@ pub const PARTS: &[Part] = &[
     Part { name: "slots", cases: 17, run: slots },
     Part { name: "limits", cases: 300, run: limits },
     Part { name: "images", cases: 4000, run: images },
+    Part { name: "numbers", cases: corners::SHAPES_AND_WIDTHS, run: corners::numbers },
+    Part { name: "brink", cases: corners::SHAPES_AND_WIDTHS, run: corners::brink },
+    Part { name: "ends", cases: corners::SHAPES_AND_BITS, run: corners::ends },
 ];
 
 /// Shapes 3, 4, 5; widths 0 to 16; b 6 to 9; J 0 to 3.
@@ -121,21 +125,18 @@ fn drive(run: &mut Run, plan: &Plan, counts: &mut [u64], hot: &[u64], steps: u64
             _ => {}
         }
         if step % check_each == 0 {
-            let answer = run.call(Call::Check);
-            run.expect(Call::Check, answer, (0, 0));
+            run.answers(Call::Check, (0, 0));
         }
     }
     for flow in 0..plan.flows() {
         look(run, plan, counts, flow);
     }
-    let answer = run.call(Call::Check);
-    run.expect(Call::Check, answer, (0, 0));
+    run.answers(Call::Check, (0, 0));
 }
 
 fn look(run: &mut Run, plan: &Plan, counts: &[u64], flow: u64) {
-    let answer = run.call(Call::Lookup { flow });
     let expected = if flow < plan.flows() { (0, counts[flow as usize]) } else { (8, 0) };
-    run.expect(Call::Lookup { flow }, answer, expected);
+    run.answers(Call::Lookup { flow }, expected);
 }
 
 /// After increments from a fresh wall: the flagged buckets are the crowded ones, and the words of each other bucket are those of its counts.
@@ -184,12 +185,8 @@ fn fresh(run: &mut Run, case: u64) {
     let mut counts = vec![0; plan.flows() as usize];
     drive(run, &plan, &mut counts, &hot, steps, 97);
     agrees_with_history(run, &plan, &counts);
-    run.call(Call::Close);
-    run.call(Call::Check);
-    if run.ours != fresh {
-        println!("differential: the two stores agree, and close does not leave the fresh wall");
-        run.disagree(Call::Close, (0, 0), (0, 0));
-    }
+    run.leaves(Call::Close, (0, 0), &fresh);
+    run.answers(Call::Check, (0, 0));
 }
 
 /// Widths 9 to 16 from a fresh wall until a place crosses into level 2.
@@ -222,8 +219,7 @@ fn grown(run: &mut Run, case: u64) {
     }
     run.rng.shuffle(&mut hot);
     hot.push(run.rng.below(plan.flows()));
-    let answer = run.call(Call::Check);
-    run.expect(Call::Check, answer, (0, 0));
+    run.answers(Call::Check, (0, 0));
     let steps = 20 + run.rng.below(100);
     drive(run, &plan, &mut counts, &hot, steps, 25);
 }
@@ -443,8 +439,7 @@ fn large(run: &mut Run, case: u64) {
         let wall = Wall::random(&mut run.rng, &plan);
         let words = wall.words();
         run.load(&words);
-        let answer = run.call(Call::Check);
-        run.expect(Call::Check, answer, (0, 0));
+        run.answers(Call::Check, (0, 0));
         let counts = wall.counts();
         for _ in 0..20 {
             let n = match wall.moved.is_empty() || run.rng.one_in(4) {
@@ -454,8 +449,7 @@ fn large(run: &mut Run, case: u64) {
             let place = run.rng.index(PLACES);
             let flow = plan.flow(n, place);
             run.load(&words);
-            let answer = run.call(Call::Lookup { flow });
-            run.expect(Call::Lookup { flow }, answer, (0, counts[n][place]));
+            run.answers(Call::Lookup { flow }, (0, counts[n][place]));
             run.call(Call::Increment { flow });
         }
         for _ in 0..10 {

@@ -1,12 +1,14 @@
 //! Memory between two unreadable pages: a slice stands right before the one or right after the other, so that a read or a write past that end crashes.
 
 use std::ffi::c_void;
-use std::sync::atomic::{AtomicU64, Ordering};
+use std::sync::Mutex;
 
 extern "C" {
     fn mmap(address: *mut c_void, length: usize, protection: i32, flags: i32, file: i32, offset: i64) -> *mut c_void;
     fn mprotect(address: *mut c_void, length: usize, protection: i32) -> i32;
     fn signal(number: i32, handler: usize) -> usize;
+    fn write(file: i32, bytes: *const c_void, length: usize) -> isize;
+    fn _exit(status: i32) -> !;
 }
 
 const NONE: i32 = 0;
@@ -50,26 +52,25 @@ impl Pen {
     }
 }
 
-static SEED: AtomicU64 = AtomicU64::new(0);
-static PART: AtomicU64 = AtomicU64::new(0);
-static CASE: AtomicU64 = AtomicU64::new(0);
+/// What a crash names: the case of a part, or a row of the edges and its store.
+static NAME: Mutex<String> = Mutex::new(String::new());
 
-/// From here on a crash names this case.
-pub fn crashes_name(seed: u64, part: usize, case: u64) {
-    SEED.store(seed, Ordering::Relaxed);
-    PART.store(part as u64, Ordering::Relaxed);
-    CASE.store(case, Ordering::Relaxed);
+/// From here on a crash names this.
+pub fn crashes_name(name: String) {
+    *NAME.lock().unwrap() = name;
 }
 
-/// Says what ended the run, and in which case.
-fn end(what: &str) -> ! {
-    let part = crate::PARTS[PART.load(Ordering::Relaxed) as usize].name;
-    println!("differential: {what}: seed {} part {part} case {}", SEED.load(Ordering::Relaxed), CASE.load(Ordering::Relaxed));
-    std::process::exit(1)
+fn say(text: &str) {
+    unsafe { write(1, text.as_ptr().cast(), text.len()) };
 }
 
+/// It formats nothing: a crash may interrupt anything, and in the emulator the stack of a handler is not aligned.
 extern "C" fn crashed(_: i32) {
-    end("a read or write outside the slice")
+    let name = NAME.lock().unwrap();
+    say("differential: a read or write outside the slice: ");
+    say(&name);
+    say("\n");
+    unsafe { _exit(1) }
 }
 
 /// Crashes (SIGBUS and SIGSEGV) and panics name their case.
@@ -77,5 +78,9 @@ pub fn catch_crashes() {
     for number in [7, 11] {
         unsafe { signal(number, crashed as *const () as usize) };
     }
-    std::panic::set_hook(Box::new(|panic| end(&panic.to_string())));
+    std::panic::set_hook(Box::new(|panic| {
+        let name = NAME.lock().unwrap().clone();
+        println!("differential: {panic}: {name}");
+        std::process::exit(1)
+    }));
 }

@@ -251,9 +251,12 @@ impl Wall {
         let plan = &self.plan;
         let total: u64 = self.counts().iter().flatten().sum();
         let mut words = vec![plan.first_word(), self.limit, total, plan.full as u64 | (self.moved.len() as u64) << 16];
-        for (n, own) in self.own.iter().enumerate() {
-            let number = self.moved.iter().position(|(bucket, _)| *bucket == n);
-            words.extend(plan.encode(own, number.is_some(), number.unwrap_or(0) as u64));
+        let mut numbers = vec![None; plan.buckets()];
+        for (number, (bucket, _)) in self.moved.iter().enumerate() {
+            numbers[*bucket] = Some(number as u64);
+        }
+        for (own, number) in self.own.iter().zip(numbers) {
+            words.extend(plan.encode(own, number.is_some(), number.unwrap_or(0)));
         }
         for (_, full) in &self.moved {
             words.push((0..PLACES).map(|place| (full[place].is_some() as u64) << place).sum());

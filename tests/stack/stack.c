@@ -1,20 +1,16 @@
 /*
- * The stack of each call: it runs on a stack of its own that is painted before, and the deepest word that changed tells how far it went, beyond the
- * return address. The walls are written word by word as docs/WALL.md has them. Prints the most bytes of each call at each shape; the exit status is 1
- * where one reaches the line, or where a call does not answer what is expected of it.
+ * The stack of each call over a wall, beyond its return address. The walls are written word by word as docs/WALL.md has them. Prints the most bytes of each
+ * call at each shape; the exit status is 1 where one reaches the line, or where a call does not answer what is expected of it.
  *
  * STORE is the prefix of the five calls.
  */
-#define _GNU_SOURCE
-
+#include "painted.h"
 #include "wall.h"
 
 #include <inttypes.h>
-#include <stdbool.h>
 #include <stdio.h>
 #include <stdlib.h>
 #include <string.h>
-#include <ucontext.h>
 
 #ifndef STORE
 #define STORE wall
@@ -23,13 +19,12 @@
 #define NAMED(store, call) JOINED(store, call)
 #define CALL(call) NAMED(STORE, call)
 
-enum { LINE = 2048, STACK_WORDS = 8192, SHAPES = 3, RAISE = 0, LOOKUP, INCREMENT, CHECK, CLOSE, CALL_KINDS };
+enum { SHAPES = 3, RAISE = 0, LOOKUP, INCREMENT, CHECK, CLOSE, CALL_KINDS };
 
 /* Two buckets; the second has the counts. */
 enum { HEAD_WORDS = 4, PLACES = 64, BITS = 7, BUCKETS = 2, BUCKET = 1, FULL = 2, FLOWS = 1 << BITS, FULL_WORDS = 65, MAX_WIDTH = 16, MAX_SHAPE = 5 };
 enum { MOST_WORDS = HEAD_WORDS + BUCKETS * (MAX_WIDTH + MAX_SHAPE + 1) + FULL * FULL_WORDS };
 
-#define PAINT 0x5ca1ab1e5ca1ab1eu
 #define ONE ((uint64_t)1)
 
 static const char *const names[CALL_KINDS] = {"raise", "lookup", "increment", "check", "close"};
@@ -77,9 +72,6 @@ static wall_answer no_close(uint64_t *w UNUSED, size_t n UNUSED)
 static const calls measured = {CALL(raise), CALL(lookup), CALL(increment), CALL(check), CALL(close)};
 static const calls empty = {no_raise, no_lookup, no_increment, no_check, no_close};
 
-static _Alignas(64) uint64_t painted[STACK_WORDS];
-static ucontext_t outside, inside;
-
 /* The wall, the arguments of a raise, and the call under way. */
 static uint64_t words[MOST_WORDS], shape, width, bits, limit, full, flow;
 static size_t length;
@@ -89,7 +81,7 @@ static volatile wall_answer came;
 
 static size_t most[CALL_KINDS][SHAPES];
 
-static void inside_stack(void)
+static void make_call(void)
 {
     switch (kind) {
     case RAISE:
@@ -107,24 +99,12 @@ static void inside_stack(void)
     default:
         came = by->close(words, length);
     }
-    swapcontext(&inside, &outside);
 }
 
 static size_t depth(const calls *calls_of)
 {
-    size_t lowest = 0;
     by = calls_of;
-    for (size_t n = 0; n < STACK_WORDS; n++)
-        painted[n] = PAINT;
-    getcontext(&inside);
-    inside.uc_stack.ss_sp = painted;
-    inside.uc_stack.ss_size = sizeof painted;
-    inside.uc_link = &outside;
-    makecontext(&inside, inside_stack, 0);
-    swapcontext(&outside, &inside);
-    while (lowest < STACK_WORDS && painted[lowest] == PAINT)
-        lowest++;
-    return (STACK_WORDS - lowest) * sizeof *painted;
+    return painted_depth(make_call);
 }
 
 /* The wall's own shape and width: a refused raise has others in its arguments. */
@@ -379,12 +359,12 @@ int main(void)
         printf("%-10s %8zu %8zu %8zu\n", names[call], most[call][0], most[call][1], most[call][2]);
         for (unsigned of_shape = 3; of_shape <= MAX_SHAPE; of_shape++, rows++) {
             size_t took = most[call][of_shape - 3];
-            if (took >= LINE)
-                fprintf(stderr, "stack: %s takes %zu bytes at shape %u, and has to stay below %d\n", names[call], took, of_shape, LINE);
+            if (took >= WALL_STACK)
+                fprintf(stderr, "stack: %s takes %zu bytes at shape %u, and has to stay below %d\n", names[call], took, of_shape, WALL_STACK);
             if (took > highest)
                 highest = took;
         }
     }
-    printf("stack: %zu rows, the most %zu of %d bytes\n", rows, highest, LINE);
-    return highest >= LINE;
+    printf("stack: %zu rows, the most %zu of %d bytes\n", rows, highest, WALL_STACK);
+    return highest >= WALL_STACK;
 }

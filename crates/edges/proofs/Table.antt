@@ -12,6 +12,10 @@ use Rattle.edges.specs.Edges.{new, times, sixteen, bucket, head, filled,
 
 -- ---- the longer runs, once each
 
+under : run (new 100 0 9) (times 31 1) .words ≡ head 100 31 0 ++ (2 ^ 32 ∷ 2 ^ 32 ∷ 15 ∷ 0 ∷ 0 ∷ [])
+unfolding good parse flatten readAt ownCounts soundLevels bucketCounts soundBucket countsAt soundAt holders allCounts soundRest holding overflowed moveIn noRoom step count lookup increment check fresh raise run encode crowded atLeast
+under = refl
+
 small : run (new 100 0 9) (times 32 1 ++ times 2 2) .words ≡ head 100 34 0 ++ (0 ∷ (2 ^ 16 + 2 ^ 32) ∷ 1 ∷ 1 ∷ 2 ∷ [])
 unfolding good parse flatten readAt ownCounts soundLevels bucketCounts soundBucket countsAt soundAt holders allCounts soundRest holding overflowed moveIn noRoom step count lookup increment check fresh raise run encode crowded atLeast
 small = refl
@@ -45,6 +49,8 @@ edges = record {
   p4 = refl;
   p5 = refl;
   p5-more = refl;
+  p6-before = ap bucket under;
+  p6-carried = ap (λ ws. bucket (increment ws 1 .words)) under;
   p6 = ap bucket small;
   p6-reads = ap (λ ws. said (lookup ws 1) ++ said (lookup ws 2)) small;
   p7-total = ap (λ ws. getD ws 2 0) tight0;
@@ -54,6 +60,7 @@ edges = record {
   p7-after = over1;
   p7-used = ap (λ ws. getD ws 3 0) over1;
   p8 = ap (λ ws. said (lookup ws 0) ++ said (increment ws 0)) over1;
+  p8-after = ap (λ ws. increment ws 0 .words) over1;
   p9 = refl;
   p10 = ap (λ ws. said (increment ws 15)) tight31;
   sound = ap (λ ws. check ws .number) over1;

@@ -46,6 +46,9 @@ pub record Edges : Type 0 where
   pub p4 : bucket (run (new 100 0 9) (times 2 1) .words) ≡ 0 ∷ 2 ^ 32 ∷ 1 ∷ 0 ∷ 0 ∷ []
   pub p5 : bucket (run (new 100 0 9) (times 2 1 ++ times 2 2) .words) ≡ 0 ∷ (2 ^ 16 + 2 ^ 32) ∷ 0x11 ∷ 0 ∷ 0 ∷ []
   pub p5-more : bucket (run (new 100 0 9) (times 2 1 ++ (times 2 2 ++ times 3 1)) .words) ≡ 2 ^ 32 ∷ (2 ^ 16 + 2 ^ 32) ∷ 0x21 ∷ 0 ∷ 0 ∷ []
+  -- the row before, and the carry into level 3
+  pub p6-before : bucket (run (new 100 0 9) (times 31 1) .words) ≡ 2 ^ 32 ∷ 2 ^ 32 ∷ 15 ∷ 0 ∷ 0 ∷ []
+  pub p6-carried : bucket (increment (run (new 100 0 9) (times 31 1) .words) 1 .words) ≡ 0 ∷ 2 ^ 32 ∷ 0 ∷ 1 ∷ 1 ∷ []
   pub p6 : bucket (run (new 100 0 9) (times 32 1 ++ times 2 2) .words) ≡ 0 ∷ (2 ^ 16 + 2 ^ 32) ∷ 1 ∷ 1 ∷ 2 ∷ []
   pub p6-reads : said (lookup (run (new 100 0 9) (times 32 1 ++ times 2 2) .words) 1) ++ said (lookup (run (new 100 0 9) (times 32 1 ++ times 2 2) .words) 2)
       ≡ 0 ∷ 32 ∷ 0 ∷ 2 ∷ []
@@ -58,6 +61,9 @@ pub record Edges : Type 0 where
   pub p7-used : getD (run (new 100 1 74) (sixteen ++ (15 ∷ [])) .words) 3 0 ≡ 1 + 2 ^ 16
   pub p8 : said (lookup (run (new 100 1 74) (sixteen ++ (15 ∷ [])) .words) 0) ++ said (increment (run (new 100 1 74) (sixteen ++ (15 ∷ [])) .words) 0)
       ≡ 0 ∷ 2 ∷ 0 ∷ 3 ∷ []
+  -- all 74 words after it: flow 0 has moved, at place 0
+  pub p8-after : increment (run (new 100 1 74) (sixteen ++ (15 ∷ [])) .words) 0 .words
+      ≡ head 100 33 (1 + 2 ^ 16) ++ (filled (2 ^ 40) ++ ((1 + 2 ^ 60) ∷ set (set (replicate 64 0) 60 2) 0 3))
   pub p9 : run (new 1 0 9) (times 1 1) .number ∷ said (increment (run (new 1 0 9) (times 1 1) .words) 1) ≡ 0 ∷ 10 ∷ 0 ∷ []
   pub p10 : said (increment (run (new 31 0 9) sixteen .words) 15) ≡ 10 ∷ 0 ∷ []
   pub sound : check (run (new 100 1 74) (sixteen ++ (15 ∷ [])) .words) .number ≡ 0
