@@ -11,8 +11,9 @@
 
 enum { SHAPE = 3, WIDTH = 4, BITS = 16, FULL = 8, LENGTH = WALL_WORDS(SHAPE, WIDTH, BITS, FULL), FLOWS = 1 << BITS, PACKETS = 1000000 };
 
-static uint64_t words[LENGTH], plain[FLOWS], flow_of[FLOWS]; /* by rank, as are the shares: of this rank and those before it */
-static double shares[FLOWS];
+static uint64_t words[LENGTH], plain[FLOWS];
+static uint64_t flow_of[FLOWS]; /* by rank */
+static double shares[FLOWS];    /* of a rank and all before it */
 
 static uint64_t drawn(void)
 {

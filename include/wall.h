@@ -1,5 +1,5 @@
 /*
- * The counter store's calls for C, on x86-64 Linux. docs/WALL.md has each word of a wall; docs/TRUST.md says what is proved of the calls.
+ * The counter store's calls for C, on x86-64 Linux. docs/WALL.md has each word of a wall; docs/TRUST.md says what has to be believed besides the proofs.
  *
  *     libhost.a  wall_slot, wall_limits, wall_image: where a flow stands, how far a counter goes, one word of an image.
  *     libcard.a  wall_raise, wall_lookup, wall_increment, wall_check, wall_close: the calls over a wall. It uses memcpy and memset.
@@ -11,8 +11,10 @@
  * value is 0, but for the bucket that comes with wall_check's WALL_UNSOUND. Every argument is judged at its full 64 bits.
  *
  * The caller keeps this: `words` is as aligned as a uint64_t is, on 8 bytes, and all `length` words can be read, and written by a call that takes them
- * without const; with length 0 it may be NULL. Two calls over one wall at the same time are the caller's to prevent, unless both only read. The stack
- * has WALL_STACK bytes left for a call; docs/WALL.md has the bytes that each takes, as measured.
+ * without const; with length 0 it may be NULL. Two calls over one wall at the same time are the caller's to prevent, unless both only read.
+ *
+ * The stack has WALL_STACK bytes left for a call, in a program that is linked statically or with -z now. Where memcpy and memset are bound lazily, many
+ * linkers' default, the first raise and the first increment look them up on the same stack, and take more. docs/WALL.md has the bytes, as measured.
  */
 #ifndef WALL_H
 #define WALL_H
@@ -38,11 +40,12 @@ enum {
     WALL_NO_FLOW = 8,      /* the flow is not below 2^bits */
     WALL_UNSOUND = 9,      /* the bucket is not sound */
     WALL_AT_LIMIT = 10,    /* the total stands at its limit */
+    /* 11 is never given */
     WALL_NO_FULL = 12,     /* the bucket must overflow, and all full-size buckets are in use */
     WALL_UNSOUND_WALL = 13 /* every bucket is sound, the wall is not */
 };
 
-/* The limits on what a wall is raised with, both ends included. Every call takes fewer bytes of stack than WALL_STACK. */
+/* The limits on what a wall is raised with, both ends included; WALL_STACK, as said above. */
 enum {
     WALL_MIN_SHAPE = 3,
     WALL_MAX_SHAPE = 5,
@@ -63,11 +66,11 @@ enum {
  *     WALL_MAX_LIMIT  the largest limit on the total, 2^L - 1, which is the largest count too
  */
 #define WALL_BUCKETS(bits) ((uint64_t)1 << ((bits) - 6))
-#define WALL_WORDS(shape, width, bits, full) (4 + WALL_BUCKETS(bits) * ((uint64_t)(width) + (shape) + 1) + 65 * (uint64_t)(full))
+#define WALL_WORDS(shape, width, bits, full) (4 + WALL_BUCKETS(bits) * ((uint64_t)(width) + (uint64_t)(shape) + 1) + 65 * (uint64_t)(full))
 #define WALL_MAX_LIMIT(shape, width) (((uint64_t)1 << ((width) + ((shape) == 3 ? 17 : 18))) - 1)
 
 /* Of the words of a wall with a good header: the total of accepted increments, and how many full-size buckets are in use. */
-#define WALL_TOTAL(words) ((words)[2])
+#define WALL_TOTAL(words) ((words)[2] + 0)
 #define WALL_IN_USE(words) ((words)[3] >> 16 & 0xFFFF)
 
 typedef struct {
@@ -77,7 +80,7 @@ typedef struct {
 
 /*
  * The slot of a flow in a wall of 2^bits flows: the flow with its `bits` bits in reverse order. The slot's bucket is value / 64, its place there
- * value % 64. A slot asked for as a flow gives that flow back.
+ * value % 64. The slot of a slot is the flow again.
  *
  * Answers WALL_DONE and the slot, WALL_BAD_BITS or WALL_NO_FLOW.
  */

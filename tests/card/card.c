@@ -1,5 +1,5 @@
 /*
- * The card's calls from C: the worked example of docs/WALL.md, word by word, each of the five calls accepted and refused, and the header's sizes and limits,
+ * The card's calls from C: the worked example of docs/WALL.md, the bucket of each row, each of the five calls accepted and refused, and the header's sizes and limits,
  * both sides of each. A check that fails prints the line, what was expected and what came; then the exit status is 1.
  */
 #include "wall.h"
@@ -12,6 +12,8 @@ enum { LENGTH = WALL_WORDS(3, 1, 6, 0), FULL_LENGTH = WALL_WORDS(3, 1, 6, 1), A1
 
 _Static_assert(LENGTH == 9 && FULL_LENGTH == 74, "the worked example");
 _Static_assert(WALL_WORDS(WALL_MAX_SHAPE, WALL_MAX_WIDTH, WALL_MAX_BITS, WALL_MAX_FULL) == 1708036, "the largest wall");
+_Static_assert(WALL_MIN_WIDTH == 1, "0 asks for the default");
+_Static_assert(WALL_WORDS(1 | 2, 1 ? 1 : 0, 4 | 2, 0 ? 0 : 1) == 74 && WALL_MAX_LIMIT(1 | 2, 1 ? 7 : 0) == 16777215, "expressions as arguments");
 _Static_assert(WALL_MAX_LIMIT(3, WALL_DEFAULT_WIDTH) == 16777215 && WALL_MAX_LIMIT(5, 16) == UINT64_C(17179869183), "as docs/WALL.md has them");
 
 static unsigned long checks, failures;
@@ -86,8 +88,14 @@ static void overflow(void)
         rises(words, FULL_LENGTH, flow, 0, 2);
     rises(words, FULL_LENGTH, 15, 0, 1);
     BUCKET(words, sixteenth, others, others, 0, 0);
+    SAME("total", WALL_TOTAL(words), 31);
     SAME("U", WALL_IN_USE(words), 0);
     rises(words, FULL_LENGTH, 15, 1, 2);
+    BUCKET(words, sixteenth, others, others, 0, flag);
+    SAME("moved flags", words[MOVED], sixteenth);
+    SAME("place 60", words[MOVED + 1 + 60], 2);
+    SAME("total", WALL_TOTAL(words), 32);
+    SAME("U", WALL_IN_USE(words), 1);
     rises(words, FULL_LENGTH, 0, 2, 3);
     BUCKET(words, sixteenth, others, others, 0, flag);
     SAME("moved flags", words[MOVED], sixteenth | 1);
@@ -113,8 +121,19 @@ static void refusals(uint64_t *words)
     JUDGE(wall_close(words, LENGTH - 1), WALL_BAD_HEADER, 0);
     SAME("words left", (uint64_t)memcmp(before, words, sizeof before), 0);
     JUDGE(wall_raise(NULL, 0, 3, 1, 6, 100, 0), WALL_BAD_LENGTH, 0);
+    JUDGE(wall_lookup(NULL, 0, 1), WALL_BAD_HEADER, 0);
     JUDGE(wall_increment(NULL, 0, 1), WALL_BAD_HEADER, 0);
     JUDGE(wall_check(NULL, 0), WALL_BAD_HEADER, 0);
+    JUDGE(wall_close(NULL, 0), WALL_BAD_HEADER, 0);
+}
+
+/* The readers read their own bits, whatever stands beside them. */
+static void readers(void)
+{
+    const uint64_t words[] = {UINT64_MAX, UINT64_MAX, 7, UINT64_C(0xFFFFFFFF1000FFFF)};
+    SAME("total", WALL_TOTAL(words), 7);
+    SAME("U", WALL_IN_USE(words), WALL_MAX_FULL);
+    SAME("U", WALL_IN_USE(words + 0) * 2, 2 * WALL_MAX_FULL);
 }
 
 /* A wall of each shape and width: as many words and as high a limit as the header says, and one more. */
@@ -171,6 +190,7 @@ int main(void)
     refusals(words);
     damage(words);
     overflow();
+    readers();
     sizes();
     limits();
     printf("card: %lu checks, %lu failed\n", checks, failures);

@@ -15,7 +15,7 @@ enum { MOST_WORDS = 512, MOST_LINE = 1024 };
 
 static uint64_t words[MOST_WORDS], expected[MOST_WORDS];
 
-static void fail(const char *line, const char *what)
+static _Noreturn void fail(const char *line, const char *what)
 {
     fprintf(stderr, "images: %s: %s", what, line);
     exit(1);
@@ -56,10 +56,9 @@ static wall_answer made(const char *call, size_t length, uint64_t flow, const ch
     if (strcmp(call, "close") == 0)
         return wall_close(words, length);
     fail(line, "no such call");
-    return (wall_answer){0, 0};
 }
 
-/* Image, call, argument, number, value, and every word that is another afterwards, as index=hex. */
+/* Image, call, argument, number, value, and every word that has changed, as index=hex. */
 static int holds(const char *folder, const char *line)
 {
     char name[64], call[16], argument[32];
@@ -69,11 +68,14 @@ static int holds(const char *folder, const char *line)
     if (sscanf(line, "%63s %15s %31s %" SCNu64 " %" SCNu64 "%n", name, call, argument, &number, &value, &read) != 5)
         fail(line, "not a line of answers");
     size_t length = load(folder, name, line);
-    for (const char *rest = line + read; sscanf(rest, " %zu=%" SCNx64 "%n", &at, &word, &read) == 2; rest += read) {
+    const char *rest = line + read;
+    for (; sscanf(rest, " %zu=%" SCNx64 "%n", &at, &word, &read) == 2; rest += read) {
         if (at >= length)
             fail(line, "no such word");
         expected[at] = word;
     }
+    if (*rest != '\n')
+        fail(line, "more than a line of answers");
     wall_answer came = made(call, length, strtoull(argument, NULL, 10), line);
     if (came.number == number && came.value == value && memcmp(words, expected, length * sizeof *words) == 0)
         return 1;

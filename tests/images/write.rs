@@ -64,23 +64,23 @@ fn damaged(all: &[Golden], of: &str, name: &'static str, about: &str, change: im
 }
 
 /// Sixteen flows of one bucket: fifteen have come to 2 and the last to 1.
-fn crowd(first: u64, step: u64) -> Vec<(u64, u64)> {
+fn brimful(first: u64, step: u64) -> Vec<(u64, u64)> {
     (0..16).map(|i| (first + step * i, if i < 15 { 2 } else { 1 })).collect()
 }
 
 /// The rows of docs/WALL.md's worked example.
 fn worked_example() -> Vec<Golden> {
     let (plain, full) = (Plan::new(3, 1, 6, 0), Plan::new(3, 1, 6, 1));
-    let crowd = crowd(0, 1);
+    let brimful = brimful(0, 1);
     vec![
         golden("raised", &plain, 100, &[], &[], &[0, 63, 64]),
         golden("risen", &plain, 100, &[(1, 5), (2, 2)], &[], &[1, 2, 3]),
         golden("carrying", &plain, 100, &[(1, 31)], &[], &[1]),
         golden("third", &plain, 100, &[(1, 32), (2, 2)], &[], &[1, 2]),
-        golden("crowd", &plain, 100, &crowd, &[], &[15, 0]),
-        golden("crowd-full", &full, 100, &crowd, &[], &[15, 0]),
-        golden("overflowed", &full, 100, &crowd, &[&[(15, 2)]], &[15, 0, 63]),
-        golden("moved", &full, 100, &crowd, &[&[(0, 3), (15, 2)]], &[15, 0, 1]),
+        golden("brimful", &plain, 100, &brimful, &[], &[15, 0]),
+        golden("brimful-full", &full, 100, &brimful, &[], &[15, 0]),
+        golden("overflowed", &full, 100, &brimful, &[&[(15, 2)]], &[15, 0, 63]),
+        golden("moved", &full, 100, &brimful, &[&[(0, 3), (15, 2)]], &[15, 0, 1]),
     ]
 }
 
@@ -92,7 +92,7 @@ fn other_shapes() -> Vec<Golden> {
     own.extend([(50, 127), (1, 8192), (3, 100_000), (5, 8191), (7, 600), (9, 511), (11, 127), (127, 1)]);
     let five = [(0, 4096), (1, 4095), (2, 256), (3, 255), (4, 32), (5, 31), (6, 8), (42, 7), (63, 1)];
     let total = five.iter().map(|(_, count)| count).sum();
-    let both = [crowd(0, 2), crowd(1, 2)].concat();
+    let both = [brimful(0, 2), brimful(1, 2)].concat();
     vec![
         golden("two", &Plan::new(3, 1, 7, 2), 100, &both, &[&[(30, 2)], &[(31, 2)]], &[30, 31, 0, 1]),
         golden("wide", &Plan::new(3, 13, 6, 0), (1 << 30) - 1, &wide, &[], &[0, 1, 2, 3, 61, 63]),
@@ -114,11 +114,11 @@ fn damages(all: &[Golden]) -> Vec<Golden> {
         damaged(all, "two", "number-at-u", "U is 1, and the number 1 is not below it: 9 in bucket 1", |words| words[3] -= 1 << 16),
         damaged(all, "two", "held-twice", "both buckets hold the number 0: 13", |words| words[13] -= 1 << 48),
         damaged(all, "risen", "above-counts", "the total is above the counts: 13", |words| words[2] = 8),
-        damaged(all, "crowd-full", "from-u", "a full-size bucket from U on is not 0: 13", |words| words[73] = 1),
+        damaged(all, "brimful-full", "from-u", "a full-size bucket from U on is not 0: 13", |words| words[73] = 1),
     ]
 }
 
-/// One line a call: image, call, argument, number, value, and each word that is another afterwards, as index=hex.
+/// One line a call: image, call, argument, number, value, and each word that has changed, as index=hex.
 fn answer(text: &mut String, golden: &Golden, call: &str, argument: Option<u64>, made: impl Fn(&mut [u64]) -> store::Answer) {
     let mut words = golden.words.clone();
     let (number, value) = made(&mut words);
@@ -148,8 +148,8 @@ fn main() {
     let mut all = worked_example();
     all.extend(other_shapes());
     all.extend(damages(&all));
-    let mut text = "# Calls on the images, each on the image as it stands in its file: image, call, argument, number, value, and every word that is another\n\
-         # afterwards, as index=hex. Counts are written flow:count.\n"
+    let mut text = "# Calls on the images, each on the image as it stands in its file: image, call, argument, number, value, and every word that\n\
+         # has changed, as index=hex. Counts are written flow:count.\n"
         .to_string();
     for golden in &all {
         let bytes: Vec<u8> = golden.words.iter().flat_map(|word| word.to_le_bytes()).collect();

@@ -22,8 +22,8 @@
 enum { SHAPES = 3, RAISE = 0, LOOKUP, INCREMENT, CHECK, CLOSE, CALL_KINDS };
 
 /* Two buckets; the second has the counts. */
-enum { HEAD_WORDS = 4, PLACES = 64, BITS = 7, BUCKETS = 2, BUCKET = 1, FULL = 2, FLOWS = 1 << BITS, FULL_WORDS = 65, MAX_WIDTH = 16, MAX_SHAPE = 5 };
-enum { MOST_WORDS = HEAD_WORDS + BUCKETS * (MAX_WIDTH + MAX_SHAPE + 1) + FULL * FULL_WORDS };
+enum { HEAD_WORDS = 4, PLACES = 64, BITS = 7, BUCKETS = 2, BUCKET = 1, FULL = 2, FLOWS = 1 << BITS, FULL_WORDS = 65 };
+enum { MOST_WORDS = WALL_WORDS(WALL_MAX_SHAPE, WALL_MAX_WIDTH, BITS, FULL) };
 
 #define ONE ((uint64_t)1)
 
@@ -168,7 +168,7 @@ static void raised(uint64_t of_full)
     bits = BITS;
     limit = least(levels + 1) - 1;
     full = of_full;
-    length = HEAD_WORDS + BUCKETS * (width + shape + 1) + FULL_WORDS * full;
+    length = WALL_WORDS(shape, width, bits, full);
     take(RAISE, WALL_DONE);
 }
 
@@ -216,7 +216,7 @@ static void raises(void)
 {
     raised(FULL);
     shape = 6, take(RAISE, WALL_BAD_SHAPE), shape = levels;
-    width = MAX_WIDTH + 1, take(RAISE, WALL_BAD_WIDTH), width = first_width;
+    width = WALL_MAX_WIDTH + 1, take(RAISE, WALL_BAD_WIDTH), width = first_width;
     bits = 5, take(RAISE, WALL_BAD_BITS), bits = BITS;
     limit++, take(RAISE, WALL_BAD_LIMIT), limit--;
     full = BUCKETS + 1, take(RAISE, WALL_BAD_FULL), full = FULL;
@@ -349,15 +349,15 @@ static void walls_of(unsigned of_shape, unsigned of_width)
 int main(void)
 {
     size_t highest = 0, rows = 0;
-    for (unsigned of_shape = 3; of_shape <= MAX_SHAPE; of_shape++) {
+    for (unsigned of_shape = 3; of_shape <= WALL_MAX_SHAPE; of_shape++) {
         walls_of(of_shape, 7);
         walls_of(of_shape, 1);
-        walls_of(of_shape, MAX_WIDTH);
+        walls_of(of_shape, WALL_MAX_WIDTH);
     }
     printf("%-10s %8s %8s %8s\n", "call", "shape 3", "shape 4", "shape 5");
     for (unsigned call = 0; call < CALL_KINDS; call++) {
         printf("%-10s %8zu %8zu %8zu\n", names[call], most[call][0], most[call][1], most[call][2]);
-        for (unsigned of_shape = 3; of_shape <= MAX_SHAPE; of_shape++, rows++) {
+        for (unsigned of_shape = 3; of_shape <= WALL_MAX_SHAPE; of_shape++, rows++) {
             size_t took = most[call][of_shape - 3];
             if (took >= WALL_STACK)
                 fprintf(stderr, "stack: %s takes %zu bytes at shape %u, and has to stay below %d\n", names[call], took, of_shape, WALL_STACK);
