@@ -1,6 +1,6 @@
 /*
- * The card's calls from C: the worked example of docs/WALL.md, the bucket of each row, each of the five calls accepted and refused, and the header's sizes and limits,
- * both sides of each. A check that fails prints the line, what was expected and what came; then the exit status is 1.
+ * The card's calls from C: the worked example of docs/WALL.md, the bucket of each row; each of the five calls accepted and refused; the header's sizes,
+ * limits and readers, both sides of each. A check that fails prints the line, what was expected and what came; then the exit status is 1.
  */
 #include "wall.h"
 

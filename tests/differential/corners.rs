@@ -117,9 +117,7 @@ pub fn numbers(run: &mut Run, case: u64) {
     not_below_used(run, &plan, &sound);
     last_full(run, &plan, &sound);
     run.load(&sound);
-    let mut fresh = vec![0; plan.length()];
-    fresh[..4].copy_from_slice(&[sound[0], sound[1], 0, MOST as u64]);
-    run.leaves(Call::Close, (0, 0), &fresh);
+    run.leaves(Call::Close, (0, 0), &fresh(&plan));
 }
 
 /// One number held twice, another by none.
@@ -159,13 +157,18 @@ pub fn brink(run: &mut Run, case: u64) {
     none_left(run, &largest(case, 19));
 }
 
-/// The overflow that takes the last number, over an empty full-size bucket and over one that is not. Then U one too high.
-fn last_taken(run: &mut Run, plan: &Plan) {
-    let sound = crowded(plan, LAST);
-    let bucket = holder(plan, LAST);
-    let flow = plan.flow(bucket, END);
+/// `crowded`, which the check accepts: its words, the bucket about to overflow, and the flow of its last place.
+fn about_to_overflow(run: &mut Run, plan: &Plan, used: usize) -> (Vec<u64>, usize, u64) {
+    let sound = crowded(plan, used);
+    let bucket = holder(plan, used);
     run.load(&sound);
     run.answers(Call::Check, (0, 0));
+    (sound, bucket, plan.flow(bucket, END))
+}
+
+/// The overflow that takes the last number, over an empty full-size bucket and over one that is not. Then U one too high.
+fn last_taken(run: &mut Run, plan: &Plan) {
+    let (sound, bucket, flow) = about_to_overflow(run, plan, LAST);
     run.answers(Call::Lookup { flow }, (0, plan.start(2) - 1));
     run.leaves(Call::Increment { flow }, (0, plan.start(2)), &crowded(plan, MOST));
     run.answers(Call::Check, (0, 0));
@@ -181,11 +184,7 @@ fn last_taken(run: &mut Run, plan: &Plan) {
 
 /// One bucket more that must overflow. Then the flag in it, with the last number, which another bucket holds too, and with the number that is one too many.
 fn none_left(run: &mut Run, plan: &Plan) {
-    let sound = crowded(plan, MOST);
-    let bucket = holder(plan, MOST);
-    let flow = plan.flow(bucket, END);
-    run.load(&sound);
-    run.answers(Call::Check, (0, 0));
+    let (sound, bucket, flow) = about_to_overflow(run, plan, MOST);
     run.leaves(Call::Increment { flow }, (12, 0), &sound);
     // place 0 has room in its levels: one more in its entry of A1
     let mut grown = with(&sound, 2, sound[2] + 1);
@@ -202,7 +201,8 @@ fn none_left(run: &mut Run, plan: &Plan) {
 /// Shapes 3, 4, 5; b 6 to 22.
 pub const SHAPES_AND_BITS: u64 = 3 * 17;
 
-/// From this b on a check takes long in store.rs. With a full-size bucket only the overflow is tried there; of the words every third is damaged, others at each b.
+/// From this b on a check takes long in store.rs. With a full-size bucket only the overflow is tried there; of the words every third is damaged,
+/// others at each b.
 const MANY_BITS: u64 = 17;
 
 /// The last bucket, without full-size buckets and with one.
@@ -227,7 +227,11 @@ fn last_alone(plan: &Plan, counts: &[u64]) -> Vec<u64> {
     words
 }
 
-/// The same with one count, the last flow's.
+fn fresh(plan: &Plan) -> Vec<u64> {
+    last_alone(plan, &[0; PLACES])
+}
+
+/// A wall with one count, the last flow's.
 fn last_once(plan: &Plan, count: u64) -> Vec<u64> {
     let mut counts = vec![0; PLACES];
     counts[END] = count;
@@ -249,7 +253,7 @@ fn last_flow(run: &mut Run, plan: &Plan) {
 fn last_overflow(run: &mut Run, plan: &Plan) {
     let last = plan.buckets() - 1;
     let flow = plan.flows() - 1;
-    let fresh = last_alone(plan, &[0; PLACES]);
+    let fresh = fresh(plan);
     let sound = last_alone(plan, &brimful(plan));
     run.load(&sound);
     if plan.full == 0 {

@@ -91,11 +91,11 @@ int main(int count, char **argument)
     char line[MOST_LINE];
     unsigned long calls = 0, failures = 0;
     if (count != 2)
-        return 2;
+        fail("images FOLDER\n", "usage");
     snprintf(line, sizeof line, "%s/answers", argument[1]);
     FILE *answers = fopen(line, "r");
     if (answers == NULL)
-        return 2;
+        fail("answers\n", "no such file");
     while (fgets(line, sizeof line, answers) != NULL)
         if (line[0] != '#' && line[0] != '\n') {
             calls++;

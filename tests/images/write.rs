@@ -1,4 +1,4 @@
-//! Writes the golden images and their answers: the words from lists of counts, as docs/WALL.md says that they are laid out, the answers by the independent store.
+//! Writes the golden images and their answers: the words from lists of counts, laid out as docs/WALL.md says, the answers by the independent store.
 //!
 //!     write FOLDER
 
