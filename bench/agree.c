@@ -6,11 +6,13 @@
 #include <stdlib.h>
 #include <string.h>
 
-static unsigned long answered[14];
+enum { NUMBERS = WALL_LIST_SHORT + 1 };
+
+static unsigned long answered[NUMBERS];
 
 static uint64_t same(const char *call, uint64_t argument, wall_answer proved, wall_answer plain)
 {
-    if (proved.number != plain.number || proved.value != plain.value || proved.number > 13) {
+    if (proved.number != plain.number || proved.value != plain.value || proved.number >= NUMBERS) {
         fprintf(stderr, "bench: %s(%" PRIu64 "): the proved store answers %" PRIu64 " and %" PRIu64, call, argument, proved.number, proved.value);
         fprintf(stderr, ", the plain one %" PRIu64 " and %" PRIu64 "\n", plain.number, plain.value);
         abort();
@@ -51,6 +53,19 @@ uint64_t agree_increment(pair *both, uint64_t flow)
 uint64_t agree_check(pair *both)
 {
     return same("check", 0, wall_check(both->proved, both->length), plain_check(both->plain, both->length));
+}
+
+/* A list of this many words, at most two for each flow; one word more has to stay as it is too. */
+uint64_t agree_busy(pair *both, uint64_t floor, size_t list_length)
+{
+    static uint64_t proved[2 * FLOWS + 1], plain[2 * FLOWS + 1];
+    pair lists = {list_length + 1, proved, plain};
+    memset(proved, 0x5c, lists.length * sizeof *proved);
+    memset(plain, 0x5c, lists.length * sizeof *plain);
+    uint64_t number = same("busy", floor, wall_busy(both->proved, both->length, floor, proved, list_length),
+                           plain_busy(both->plain, both->length, floor, plain, list_length));
+    agree_words(&lists);
+    return number;
 }
 
 void agree_close(pair *both)
@@ -94,6 +109,18 @@ static void rehearse(pair *both, const bench_case *made, wall_kind kind)
     agree_close(both);
 }
 
+/* All flows, those that go on above level 1 and none; all in one word too few. */
+static void agree_lists(pair *both)
+{
+    const uint64_t floors[] = {0, 1 << WIDTH, UINT64_MAX};
+    for (unsigned n = 0; n < 3; n++)
+        if (agree_busy(both, floors[n], 2 * FLOWS) != WALL_DONE)
+            abort();
+    if (agree_busy(both, 0, 2 * FLOWS - 1) != WALL_LIST_SHORT)
+        abort();
+    agree_words(both);
+}
+
 void build_case(unsigned shape, wall_kind kind, const char *path)
 {
     generator from = seeded();
@@ -108,6 +135,7 @@ void build_case(unsigned shape, wall_kind kind, const char *path)
             abort();
     if (agree_check(&both) != WALL_DONE || made.words[3] >> 16 != (kind == FLAGGED ? BUCKETS / 16 : 0))
         abort();
+    agree_lists(&both);
     draw_calls(&made, &from);
     write_case(&made, path);
     uint64_t increments = made.words[2], used = made.words[3] >> 16;
@@ -150,6 +178,7 @@ static void agree_on_one(pair *both, generator *from)
             agree_increment(both, drawn(from) & (drawn(from) | 15) & mask);
         damage(both, from);
         agree_check(both);
+        agree_busy(both, about(from, 0, 15), drawn(from) % (2 * 128 + 1));
         for (unsigned call = 0; call < 8; call++) {
             agree_lookup(both, about(from, 0, 127));
             agree_increment(both, about(from, 0, 127));
@@ -168,6 +197,6 @@ void agree_on_damage(void)
     for (unsigned trial = 0; trial < TRIALS; trial++)
         agree_on_one(&both, &from);
     printf("- Damaged words: the same answers and the same words. Answers by number:");
-    for (unsigned number = 0; number < 14; number++)
-        printf(" %u: %lu%s", number, answered[number], number < 13 ? "," : ".\n");
+    for (unsigned number = 0; number < NUMBERS; number++)
+        printf(" %u: %lu%s", number, answered[number], number < NUMBERS - 1 ? "," : ".\n");
 }

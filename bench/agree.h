@@ -16,6 +16,7 @@ void agree_raise(pair *both, uint64_t shape, uint64_t width, uint64_t bits, uint
 uint64_t agree_lookup(pair *both, uint64_t flow);
 uint64_t agree_increment(pair *both, uint64_t flow);
 uint64_t agree_check(pair *both);
+uint64_t agree_busy(pair *both, uint64_t floor, size_t list_length);
 void agree_close(pair *both);
 void agree_words(const pair *both);
 

@@ -10,12 +10,15 @@
 #include <string.h>
 #include <time.h>
 
-enum { CHECKS = 10, CLOSES = 100, REPETITIONS = 9, KINDS = 4, STORES = 3 };
+enum { CHECKS = 10, CLOSES = 100, LISTS = 2, LIST_WORDS = 2 * FLOWS, REPETITIONS = 9, STORES = 3 };
+
+enum { LOOKUP, INCREMENT, CHECK, CLOSE, LIST_ALL, LIST_NONE, KINDS };
 
 typedef struct {
     bench_case made;
     uint64_t *proved, *plain;
     flat_store flat;
+    uint64_t *list;
 } stores;
 
 static volatile uint64_t answered; /* keeps the calls from being left out */
@@ -41,27 +44,41 @@ REPEATED(flat_checks, CHECKS, flat_check(&in->flat))
 REPEATED(proved_closes, CLOSES, wall_close(in->proved, in->made.length))
 REPEATED(plain_closes, CLOSES, plain_close(in->plain, in->made.length))
 REPEATED(flat_closes, CLOSES, flat_close(&in->flat))
+REPEATED(proved_lists_all, LISTS, wall_busy(in->proved, in->made.length, 0, in->list, LIST_WORDS))
+REPEATED(plain_lists_all, LISTS, plain_busy(in->plain, in->made.length, 0, in->list, LIST_WORDS))
+REPEATED(flat_lists_all, LISTS, flat_busy(&in->flat, 0, in->list, LIST_WORDS))
+REPEATED(proved_lists_none, LISTS, wall_busy(in->proved, in->made.length, UINT64_MAX, in->list, LIST_WORDS))
+REPEATED(plain_lists_none, LISTS, plain_busy(in->plain, in->made.length, UINT64_MAX, in->list, LIST_WORDS))
+REPEATED(flat_lists_none, LISTS, flat_busy(&in->flat, UINT64_MAX, in->list, LIST_WORDS))
 
 static const char *const store_names[STORES] = {"wall", "plain", "flat"};
 
 static const struct {
-    const char *name;
+    const char *name, *call;
     void (*run[STORES])(stores *);
 } kinds[KINDS] = {
-    {"lookup", {proved_lookups, plain_lookups, flat_lookups}},
-    {"increment", {proved_increments, plain_increments, flat_increments}},
-    {"check", {proved_checks, plain_checks, flat_checks}},
-    {"close", {proved_closes, plain_closes, flat_closes}},
+    {"lookup", "lookup", {proved_lookups, plain_lookups, flat_lookups}},
+    {"increment", "increment", {proved_increments, plain_increments, flat_increments}},
+    {"check", "check", {proved_checks, plain_checks, flat_checks}},
+    {"close", "close", {proved_closes, plain_closes, flat_closes}},
+    {"list-all", "busy", {proved_lists_all, plain_lists_all, flat_lists_all}},
+    {"list-none", "busy", {proved_lists_none, plain_lists_none, flat_lists_none}},
 };
 
-/* A check is counted by the bucket and a close by the word; the flat array's 64 counters stand for a bucket, and it has a word for each flow. */
+/*
+ * A check is counted by the bucket, a close by the word and a busy list by the flow; the flat array's 64 counters stand for a bucket, and it has a word
+ * for each flow.
+ */
 static double units(const stores *in, unsigned kind, unsigned store)
 {
     switch (kind) {
-    case 2:
+    case CHECK:
         return (double)CHECKS * BUCKETS;
-    case 3:
+    case CLOSE:
         return (double)CLOSES * (store == 2 ? (size_t)FLOWS : in->made.length);
+    case LIST_ALL:
+    case LIST_NONE:
+        return (double)LISTS * FLOWS;
     default:
         return (double)in->made.calls;
     }
@@ -78,7 +95,7 @@ static uint64_t *fresh(size_t length)
 static stores opened(const char *path)
 {
     bench_case made = read_case(path);
-    return (stores){made, fresh(made.length), fresh(made.length), {FLOWS, 0, 0, fresh(FLOWS)}};
+    return (stores){made, fresh(made.length), fresh(made.length), {FLOWS, 0, 0, fresh(FLOWS)}, fresh(LIST_WORDS)};
 }
 
 static void restored(stores *in)
@@ -94,12 +111,13 @@ void run_calls(const char *kind, const char *path)
 {
     stores in = opened(path);
     for (unsigned k = 0; k < KINDS; k++) {
-        if (strcmp(kind, "all") && strcmp(kind, kinds[k].name))
+        bool asked = strcmp(kind, "all") ? !strcmp(kind, kinds[k].name) : k < LIST_ALL;
+        if (!asked)
             continue;
         for (unsigned store = 0; store < STORES; store++) {
             restored(&in);
             kinds[k].run[store](&in);
-            printf("%s_%s %.0f\n", store_names[store], kinds[k].name, units(&in, k, store));
+            printf("%s_%s %.0f\n", store_names[store], kinds[k].call, units(&in, k, store));
         }
     }
 }

@@ -4,7 +4,10 @@
 #ifndef MEASURE_H
 #define MEASURE_H
 
-/* The calls of one kind, or of all four, by the three stores; a line for each says how many units they make. */
+/*
+ * The calls of one kind by the three stores, or of all but the busy lists: the check that one begins with would be counted among the checks. A line for
+ * each says how many units they make.
+ */
 void run_calls(const char *kind, const char *path);
 
 /* Nanoseconds as ratios to the flat array, a line for each of the other stores: the median repetitions, all in this run. */

@@ -145,22 +145,28 @@ PLAIN_INLINE bool flagged(const plain_wall *wall, const uint64_t *bucket)
     return bucket[wall->width + wall->shape] >> FLAG_BIT & 1;
 }
 
+/* The count at a slot, whose bucket is sound. */
+PLAIN_INLINE uint64_t count_at(const plain_wall *wall, const uint64_t *words, uint64_t slot)
+{
+    const uint64_t *bucket = words + bucket_start(wall, slot / PLACES);
+    unsigned place = slot % PLACES;
+    if (flagged(wall, bucket)) {
+        const uint64_t *full = words + full_of(wall, bucket);
+        if (full[0] >> place & 1)
+            return full[1 + place];
+    }
+    if (bucket[wall->width] >> place & 1)
+        return plain_own_count(bucket, wall->shape, wall->width, place);
+    return plain_first(bucket, wall->width, place);
+}
+
 wall_answer plain_lookup(const uint64_t *words, size_t length, uint64_t flow)
 {
     plain_wall wall;
     uint64_t slot, number = judge(words, length, flow, &wall, &slot);
     if (number != WALL_DONE)
         return answer(number, 0);
-    const uint64_t *bucket = words + bucket_start(&wall, slot / PLACES);
-    unsigned place = slot % PLACES;
-    if (flagged(&wall, bucket)) {
-        const uint64_t *full = words + full_of(&wall, bucket);
-        if (full[0] >> place & 1)
-            return answer(WALL_DONE, full[1 + place]);
-    }
-    if (bucket[wall.width] >> place & 1)
-        return answer(WALL_DONE, plain_own_count(bucket, wall.shape, wall.width, place));
-    return answer(WALL_DONE, plain_first(bucket, wall.width, place));
+    return answer(WALL_DONE, count_at(&wall, words, slot));
 }
 
 /* One more at a place of a flagged bucket, which is moved then if it was not before; answers its count. */
@@ -249,6 +255,31 @@ wall_answer plain_check(const uint64_t *words, size_t length)
     if (counted != wall.total || met.twice || met.count != wall.used || !rest)
         return answer(WALL_UNSOUND_WALL, 0);
     return answer(WALL_DONE, 0);
+}
+
+/* How many flows are listed does not depend on their order: they are counted by slot. The second walk stops with the last of them. */
+wall_answer plain_busy(const uint64_t *words, size_t length, uint64_t floor, uint64_t *list, size_t list_length)
+{
+    plain_wall wall;
+    uint64_t listed = 0;
+    if (!open_wall(words, length, &wall))
+        return answer(WALL_BAD_HEADER, 0);
+    uint64_t number = plain_check(words, length).number, flows = (uint64_t)1 << wall.bits;
+    if (number != WALL_DONE)
+        return answer(number, 0);
+    for (uint64_t slot = 0; slot < flows; slot++)
+        listed += count_at(&wall, words, slot) >= floor;
+    if (listed > list_length / 2)
+        return answer(WALL_LIST_SHORT, 0);
+    const uint64_t *end = list + 2 * listed;
+    for (uint64_t flow = 0; list < end; flow++) {
+        uint64_t count = count_at(&wall, words, slot_of(wall.bits, flow));
+        if (count >= floor) {
+            *list++ = flow;
+            *list++ = count;
+        }
+    }
+    return answer(WALL_DONE, listed);
 }
 
 wall_answer plain_close(uint64_t *words, size_t length)

@@ -10,6 +10,7 @@ wall_answer plain_raise(uint64_t *words, size_t length, uint64_t shape, uint64_t
 wall_answer plain_lookup(const uint64_t *words, size_t length, uint64_t flow);
 wall_answer plain_increment(uint64_t *words, size_t length, uint64_t flow);
 wall_answer plain_check(const uint64_t *words, size_t length);
+wall_answer plain_busy(const uint64_t *words, size_t length, uint64_t floor, uint64_t *list, size_t list_length);
 wall_answer plain_close(uint64_t *words, size_t length);
 
 /* The flow with its bits in reverse order; a slot gives its flow back. */

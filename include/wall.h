@@ -2,19 +2,20 @@
  * The counter store's calls for C, on x86-64 Linux. docs/WALL.md has each word of a wall; docs/TRUST.md says what has to be believed besides the proofs.
  *
  *     libhost.a  wall_slot, wall_limits, wall_image: where a flow stands, how far a counter goes, one word of an image.
- *     libcard.a  wall_raise, wall_lookup, wall_increment, wall_check, wall_close: the calls over a wall. It uses memcpy and memset.
+ *     libcard.a  wall_raise, wall_lookup, wall_increment, wall_check, wall_busy, wall_close: the calls over a wall. It uses memcpy and memset.
  *
  * `rt staticlib host` and `rt staticlib card` build them into target/staticlib/. A program may link either or both.
  *
  * No call allocates, keeps a pointer or has a state of its own. Each answers a number and a value. The number is WALL_DONE, or says why the call was
- * refused; where several reasons apply, it is the first of them in the order in which the call's comment names them. A refusal changes no word, and its
- * value is 0, but for the bucket that comes with wall_check's WALL_UNSOUND. Every argument is judged at its full 64 bits.
+ * refused; where several reasons apply, it is the first of them in the order in which the call's comment names them. A refusal changes no word, of a wall
+ * or of a list, and its value is 0, but for the bucket that comes with wall_check's WALL_UNSOUND. Every argument is judged at its full 64 bits.
  *
- * The caller keeps this: `words` is as aligned as a uint64_t is, on 8 bytes, and all `length` words can be read, and written by a call that takes them
- * without const; with length 0 it may be NULL. Two calls over one wall at the same time are the caller's to prevent, unless both only read.
+ * The caller keeps this: `words` and `list` are as aligned as a uint64_t is, on 8 bytes, and all their words can be read, and written by a call that
+ * takes them without const; with length 0 they may be NULL. Pieces lent to one call do not overlap. Two calls over the same words at the same time are
+ * the caller's to prevent, unless both only read them.
  *
  * The stack has WALL_STACK bytes left for a call, in a program that is linked statically or with -z now. Where memcpy and memset are bound lazily, many
- * linkers' default, the first raise and the first increment look them up on the same stack, and take more. docs/WALL.md has the bytes, as measured.
+ * linkers' default, each is looked up on the same stack at its own first use, and that call takes more. docs/WALL.md has the bytes, as measured.
  */
 #ifndef WALL_H
 #define WALL_H
@@ -29,20 +30,21 @@ extern "C" {
 /* The numbers. 6 has a name for each of the two calls that give it: a switch over the answers of both has one case for them. */
 enum {
     WALL_DONE = 0,
-    WALL_BAD_SHAPE = 1,    /* the shape is not 3, 4 or 5 */
-    WALL_BAD_WIDTH = 2,    /* the width is over 16 */
-    WALL_BAD_BITS = 3,     /* the bits are outside 6..22 */
-    WALL_BAD_LIMIT = 4,    /* the limit on the total is 0, or more than a counter holds */
-    WALL_BAD_FULL = 5,     /* more full-size buckets than buckets, or than 4,096 */
-    WALL_NO_WORD = 6,      /* wall_image: the word is not in the image */
-    WALL_BAD_LENGTH = 6,   /* wall_raise: the length is not exact */
-    WALL_BAD_HEADER = 7,   /* the words are no wall: too few or too many, or a header that is not good */
-    WALL_NO_FLOW = 8,      /* the flow is not below 2^bits */
-    WALL_UNSOUND = 9,      /* the bucket is not sound */
-    WALL_AT_LIMIT = 10,    /* the total stands at its limit */
+    WALL_BAD_SHAPE = 1,     /* the shape is not 3, 4 or 5 */
+    WALL_BAD_WIDTH = 2,     /* the width is over 16 */
+    WALL_BAD_BITS = 3,      /* the bits are outside 6..22 */
+    WALL_BAD_LIMIT = 4,     /* the limit on the total is 0, or more than a counter holds */
+    WALL_BAD_FULL = 5,      /* more full-size buckets than buckets, or than 4,096 */
+    WALL_NO_WORD = 6,       /* wall_image: the word is not in the image */
+    WALL_BAD_LENGTH = 6,    /* wall_raise: the length is not exact */
+    WALL_BAD_HEADER = 7,    /* the words are no wall: too few or too many, or a header that is not good */
+    WALL_NO_FLOW = 8,       /* the flow is not below 2^bits */
+    WALL_UNSOUND = 9,       /* the flow's bucket, or with wall_check and wall_busy some bucket, is not sound */
+    WALL_AT_LIMIT = 10,     /* the total stands at its limit */
     /* 11 is never given */
-    WALL_NO_FULL = 12,     /* the bucket must overflow, and all full-size buckets are in use */
-    WALL_UNSOUND_WALL = 13 /* every bucket is sound, the wall is not */
+    WALL_NO_FULL = 12,      /* the bucket must overflow, and all full-size buckets are in use */
+    WALL_UNSOUND_WALL = 13, /* every bucket is sound, the wall is not */
+    WALL_LIST_SHORT = 14    /* wall_busy: the flows to list need more words than the list has */
 };
 
 /* The limits on what a wall is raised with, both ends included; WALL_STACK, as said above. */
@@ -106,8 +108,8 @@ wall_answer wall_limits(uint64_t shape, uint64_t width);
 wall_answer wall_image(const uint8_t *bytes, size_t length, uint64_t n);
 
 /*
- * A wall is `length` words that the caller lends. The card's calls read and write nothing beyond them. Any words may be lent, and any flow number asked
- * for: words that are no wall are refused.
+ * A wall is `length` words that the caller lends, a list `list_length` words. The card's calls read and write nothing beyond them. Any words may be lent,
+ * and any flow number asked for: words that are no wall are refused.
  */
 
 /*
@@ -139,6 +141,17 @@ wall_answer wall_increment(uint64_t *words, size_t length, uint64_t flow);
  * Answers WALL_DONE and 0, WALL_BAD_HEADER, WALL_UNSOUND and the lowest bucket that is not sound, counted from 0, or WALL_UNSOUND_WALL.
  */
 wall_answer wall_check(const uint64_t *words, size_t length);
+
+/*
+ * The busy list: the flows whose count is at least `floor`, in rising flow number, each in two words of the list from list[0] on: the flow, then its
+ * count. The words after the last entry keep their contents. Floor 0 lists every flow, a floor above every count none. The whole wall is judged before
+ * any word is written, and only read. A list of 2 * 2^bits words is always long enough, and for a floor of 1 and more one of 2 * (WALL_TOTAL(words) /
+ * floor) words; an odd list_length is no fault.
+ *
+ * Answers WALL_DONE and how many flows are listed, or as wall_check WALL_BAD_HEADER, WALL_UNSOUND (here with the value 0) or WALL_UNSOUND_WALL, or
+ * WALL_LIST_SHORT.
+ */
+wall_answer wall_busy(const uint64_t *words, size_t length, uint64_t floor, uint64_t *list, size_t list_length);
 
 /*
  * The interval ends: the fresh wall of the same shape, width, bits, limit and full-size buckets. The header alone has to be good.

@@ -1,5 +1,5 @@
 /*
- * The card's calls from C: the worked example of docs/WALL.md, the bucket of each row; each of the five calls accepted and refused; the header's sizes,
+ * The card's calls from C: the worked example of docs/WALL.md, the bucket of each row; each of the six calls accepted and refused; the header's sizes,
  * limits and readers, both sides of each. A check that fails prints the line, what was expected and what came; then the exit status is 1.
  */
 #include "wall.h"
@@ -9,6 +9,9 @@
 #include <string.h>
 
 enum { LENGTH = WALL_WORDS(3, 1, 6, 0), FULL_LENGTH = WALL_WORDS(3, 1, 6, 1), A1 = 4, I1, A2, A3, PACKED, MOVED };
+enum { FLOWS = 64, ALL = 2 * FLOWS };
+
+#define KEPT UINT64_C(0x5CA1AB1E5CA1AB1E)
 
 _Static_assert(LENGTH == 9 && FULL_LENGTH == 74, "the worked example");
 _Static_assert(WALL_WORDS(WALL_MAX_SHAPE, WALL_MAX_WIDTH, WALL_MAX_BITS, WALL_MAX_FULL) == 1708036, "the largest wall");
@@ -42,9 +45,25 @@ static void bucket(int line, const uint64_t *words, uint64_t a1, uint64_t i1, ui
     same(line, "packed", words[PACKED], packed);
 }
 
+/* A busy list in this many words, and one more: the entries expected stand at its start, every other word is kept, and so is the wall. */
+static void listed(int line, const uint64_t *words, size_t length, uint64_t floor, size_t list_length, uint64_t number, const uint64_t *entries,
+                   size_t flows)
+{
+    uint64_t list[ALL + 2], before[FULL_LENGTH];
+    memcpy(before, words, length * sizeof *words);
+    for (size_t n = 0; n < list_length + 1; n++)
+        list[n] = KEPT;
+    judge(line, wall_busy(words, length, floor, list, list_length), number, flows);
+    for (size_t n = 0; n < list_length + 1; n++)
+        same(line, "list", list[n], n < 2 * flows ? entries[n] : KEPT);
+    same(line, "words left", (uint64_t)memcmp(before, words, length * sizeof *words), 0);
+}
+
 #define JUDGE(call, number, value) judge(__LINE__, call, number, value)
 #define SAME(what, came, expected) same(__LINE__, what, came, expected)
 #define BUCKET(words, a1, i1, a2, a3, packed) bucket(__LINE__, words, a1, i1, a2, a3, packed)
+#define LISTED(words, length, floor, list_length, entries, flows) listed(__LINE__, words, length, floor, list_length, WALL_DONE, entries, flows)
+#define UNLISTED(words, length, floor, list_length, number) listed(__LINE__, words, length, floor, list_length, number, NULL, 0)
 
 /* A flow comes from one count to another. */
 static void rises(uint64_t *words, size_t length, uint64_t flow, uint64_t from, uint64_t to)
@@ -79,6 +98,52 @@ static void worked_example(uint64_t *words)
     SAME("total", WALL_TOTAL(words), 7);
 }
 
+/* The worked example's wall: flow 1 has come to 5, flow 2 to 2. */
+static void busy(const uint64_t *words)
+{
+    uint64_t all[ALL] = {0};
+    const uint64_t both[] = {1, 5, 2, 2};
+    for (uint64_t flow = 0; flow < FLOWS; flow++)
+        all[2 * flow] = flow;
+    all[2 * 1 + 1] = 5;
+    all[2 * 2 + 1] = 2;
+    LISTED(words, LENGTH, 0, ALL, all, FLOWS);
+    LISTED(words, LENGTH, 0, ALL + 1, all, FLOWS);
+    LISTED(words, LENGTH, 1, 4, both, 2);
+    LISTED(words, LENGTH, 1, 5, both, 2);
+    LISTED(words, LENGTH, 2, ALL, both, 2);
+    LISTED(words, LENGTH, 3, 2, both, 1);
+    LISTED(words, LENGTH, 5, 3, both, 1);
+    LISTED(words, LENGTH, 6, 2, NULL, 0);
+    LISTED(words, LENGTH, UINT64_C(1) << 32, ALL, NULL, 0);
+    LISTED(words, LENGTH, UINT64_MAX, ALL, NULL, 0);
+    UNLISTED(words, LENGTH, 0, ALL - 1, WALL_LIST_SHORT);
+    UNLISTED(words, LENGTH, 1, 3, WALL_LIST_SHORT);
+    UNLISTED(words, LENGTH, 5, 1, WALL_LIST_SHORT);
+    UNLISTED(words, LENGTH - 1, 1, 4, WALL_BAD_HEADER);
+    UNLISTED(words, LENGTH - 1, 1, 0, WALL_BAD_HEADER);
+    JUDGE(wall_busy(words, LENGTH, 6, NULL, 0), WALL_DONE, 0);
+    JUDGE(wall_busy(words, LENGTH, 5, NULL, 0), WALL_LIST_SHORT, 0);
+    JUDGE(wall_busy(NULL, 0, 0, NULL, 0), WALL_BAD_HEADER, 0);
+    for (uint64_t floor = 1; floor <= 8; floor++) /* as long as the header says is enough; at floor 5 not a word more than needed */
+        JUDGE(wall_busy(words, LENGTH, floor, all, 2 * (WALL_TOTAL(words) / floor)), WALL_DONE, floor <= 2 ? 2 : floor <= 5);
+}
+
+/* Two buckets: their flows are listed in turn, and a busy list does not say which of them is not sound. */
+static void two_buckets(void)
+{
+    enum { LENGTH_OF_TWO = WALL_WORDS(3, 1, 7, 0), SECOND = 5 };
+    uint64_t words[LENGTH_OF_TWO];
+    const uint64_t entries[] = {0, 1, 1, 2, 126, 2, 127, 1};
+    JUDGE(wall_raise(words, LENGTH_OF_TWO, 3, 1, 7, 100, 0), WALL_DONE, 0);
+    for (size_t n = 0; n < 8; n += 2)
+        rises(words, LENGTH_OF_TWO, entries[n], 0, entries[n + 1]);
+    LISTED(words, LENGTH_OF_TWO, 1, 8, entries, 4);
+    words[SECOND + A2] |= 0x100;
+    JUDGE(wall_check(words, LENGTH_OF_TWO), WALL_UNSOUND, 1);
+    UNLISTED(words, LENGTH_OF_TWO, 1, 8, WALL_UNSOUND);
+}
+
 static void overflow(void)
 {
     static uint64_t words[FULL_LENGTH];
@@ -103,6 +168,11 @@ static void overflow(void)
     SAME("place 60", words[MOVED + 1 + 60], 2);
     SAME("total", WALL_TOTAL(words), 33);
     SAME("U", WALL_IN_USE(words), 1);
+    uint64_t entries[2 * 16] = {0, 3};
+    for (uint64_t flow = 1; flow < 16; flow++)
+        entries[2 * flow] = flow, entries[2 * flow + 1] = 2;
+    LISTED(words, FULL_LENGTH, 2, 2 * 16, entries, 16);
+    LISTED(words, FULL_LENGTH, 3, 3, entries, 1);
 }
 
 /* Each refusal leaves the words as they were. */
@@ -172,11 +242,15 @@ static void damage(uint64_t *words)
 {
     words[2]++;
     JUDGE(wall_check(words, LENGTH), WALL_UNSOUND_WALL, 0);
+    UNLISTED(words, LENGTH, 1, 4, WALL_UNSOUND_WALL);
+    UNLISTED(words, LENGTH, 1, 0, WALL_UNSOUND_WALL);
     words[2]--;
     words[A2] |= 0x100; /* an entry above those in use */
     JUDGE(wall_lookup(words, LENGTH, 1), WALL_UNSOUND, 0);
     JUDGE(wall_increment(words, LENGTH, 1), WALL_UNSOUND, 0);
     JUDGE(wall_check(words, LENGTH), WALL_UNSOUND, 0);
+    UNLISTED(words, LENGTH, 1, 4, WALL_UNSOUND);
+    UNLISTED(words, LENGTH, 1, 0, WALL_UNSOUND);
     JUDGE(wall_close(words, LENGTH), WALL_DONE, 0);
     BUCKET(words, 0, 0, 0, 0, 0);
     JUDGE(wall_check(words, LENGTH), WALL_DONE, 0);
@@ -187,8 +261,10 @@ int main(void)
     uint64_t words[LENGTH];
     memset(words, 0xFF, sizeof words);
     worked_example(words);
+    busy(words);
     refusals(words);
     damage(words);
+    two_buckets();
     overflow();
     readers();
     sizes();

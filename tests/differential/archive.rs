@@ -19,6 +19,7 @@ extern "C" {
     fn wall_lookup(words: *const u64, length: usize, flow: u64) -> Reply;
     fn wall_increment(words: *mut u64, length: usize, flow: u64) -> Reply;
     fn wall_check(words: *const u64, length: usize) -> Reply;
+    fn wall_busy(words: *const u64, length: usize, floor: u64, list: *mut u64, list_length: usize) -> Reply;
     fn wall_close(words: *mut u64, length: usize) -> Reply;
     fn wall_slot(bits: u64, flow: u64) -> Reply;
     fn wall_limits(shape: u64, width: u64) -> Reply;
@@ -39,6 +40,15 @@ pub fn increment(words: &mut [u64], flow: u64) -> Answer {
 
 pub fn check(words: &[u64]) -> Answer {
     unsafe { wall_check(words.as_ptr(), words.len()).answer() }
+}
+
+pub fn busy(words: &[u64], floor: u64, list: &mut [u64]) -> Answer {
+    unsafe { wall_busy(words.as_ptr(), words.len(), floor, list.as_mut_ptr(), list.len()).answer() }
+}
+
+/// The list of length 0 at the null pointer, which the header file allows.
+pub fn busy_without_list(words: &[u64], floor: u64) -> Answer {
+    unsafe { wall_busy(words.as_ptr(), words.len(), floor, std::ptr::null_mut(), 0).answer() }
 }
 
 pub fn close(words: &mut [u64]) -> Answer {

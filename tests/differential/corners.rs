@@ -111,6 +111,9 @@ pub fn numbers(run: &mut Run, case: u64) {
     let sound = crowded(&plan, MOST);
     run.load(&sound);
     run.answers(Call::Check, (0, 0));
+    if plan.width == 1 {
+        lists_flagged(run, &plan);
+    }
     counts_on(run, &plan, &sound, holder(&plan, LAST), LAST);
     run.answers(Call::Check, (0, 0));
     held_twice(run, &plan, &sound);
@@ -118,6 +121,18 @@ pub fn numbers(run: &mut Run, case: u64) {
     last_full(run, &plan, &sound);
     run.load(&sound);
     run.leaves(Call::Close, (0, 0), &fresh(&plan));
+}
+
+/// Busy on `crowded` with every bucket flagged: level 2 is used at the first places and at the last one, which is moved. The lists are one word too short
+/// and one word longer than needed.
+fn lists_flagged(run: &mut Run, plan: &Plan) {
+    let listed = (0..plan.levels.0[1].0).chain([END]);
+    let mut flows: Vec<u64> = listed.flat_map(|place| (0..plan.buckets()).map(move |n| plan.flow(n, place))).collect();
+    flows.sort();
+    let entries: Vec<u64> = flows.into_iter().flat_map(|flow| [flow, plan.start(2)]).collect();
+    run.busy(plan.start(2) + 1, 0, Ok(Vec::new()));
+    run.busy(plan.start(2), entries.len() - 1, Ok(entries.clone()));
+    run.busy(plan.start(2), entries.len() + 1, Ok(entries));
 }
 
 /// One number held twice, another by none.
@@ -205,6 +220,9 @@ pub const SHAPES_AND_BITS: u64 = 3 * 17;
 /// others at each b.
 const MANY_BITS: u64 = 17;
 
+/// b of the most flows.
+const MOST_BITS: u64 = 22;
+
 /// The last bucket, without full-size buckets and with one.
 pub fn ends(run: &mut Run, case: u64) {
     run.pens.at_end = true;
@@ -245,8 +263,21 @@ fn last_flow(run: &mut Run, plan: &Plan) {
     run.answers(Call::Raise { shape: plan.shape, width: plan.width, bits: plan.bits, limit: plan.top(), full: plan.full as u64 }, (0, 0));
     run.leaves(Call::Increment { flow: plan.flows() - 1 }, (0, 1), &once);
     run.answers(Call::Check, (0, 0));
+    lists_last(run, plan);
     unsound_at(run, plan, &with(&once, 2, 0), plan.buckets() - 1);
     unsound(run, &with(&once, 2, 2));
+}
+
+/// Busy on a wall with one count, the last flow's: that flow alone, and all flows. With many bits only the most flows, in one shape.
+fn lists_last(run: &mut Run, plan: &Plan) {
+    let flows = plan.flows();
+    if plan.bits < MANY_BITS || plan.bits == MOST_BITS && plan.shape == 3 {
+        let all: Vec<u64> = (0..flows).flat_map(|flow| [flow, (flow == flows - 1) as u64]).collect();
+        run.busy(0, all.len(), Ok(all));
+    }
+    if plan.bits < MANY_BITS {
+        run.busy(1, 2, Ok(vec![flows - 1, 1]));
+    }
 }
 
 /// The last bucket about to overflow: its last flow is refused, or takes the last word of the wall. Then that word too low.

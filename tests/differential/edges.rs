@@ -2,6 +2,8 @@
 //!
 //! Shape 3, w1 1, b 6, M 100, J 0 unless said. A wall of these is four words of header, then A1, I1, A2, A3 and the packed word.
 
+mod busy;
+
 use crate::archive;
 use crate::pen::{self, Pen};
 use crate::store::{self, Answer};
@@ -20,6 +22,8 @@ pub struct Store {
     lookup: fn(&[u64], u64) -> Answer,
     increment: fn(&mut [u64], u64) -> Answer,
     check: fn(&[u64]) -> Answer,
+    busy: fn(&[u64], u64, &mut [u64]) -> Answer,
+    busy_without_list: fn(&[u64], u64) -> Answer,
     close: fn(&mut [u64]) -> Answer,
     slot: fn(u64, u64) -> Answer,
     limits: fn(u64, u64) -> Answer,
@@ -32,6 +36,8 @@ const PLAIN: Store = Store {
     lookup: store::lookup,
     increment: store::increment,
     check: store::check,
+    busy: store::busy,
+    busy_without_list: |words, floor| store::busy(words, floor, &mut []),
     close: store::close,
     slot: store::slot,
     limits: store::limits,
@@ -44,6 +50,8 @@ const ARCHIVE: Store = Store {
     lookup: archive::lookup,
     increment: archive::increment,
     check: archive::check,
+    busy: archive::busy,
+    busy_without_list: archive::busy_without_list,
     close: archive::close,
     slot: archive::slot,
     limits: archive::limits,
@@ -53,6 +61,8 @@ const ARCHIVE: Store = Store {
 struct Row<'a> {
     store: &'a Store,
     name: &'static str,
+    /// Where the lists of busy stand.
+    list: &'a mut Pen,
     failed: bool,
 }
 
@@ -274,18 +284,18 @@ const ROWS: &[(&str, Run)] = &[
 
 /// Runs each row on each store.
 pub fn hold() -> bool {
-    let mut pen = Pen::new(2);
+    let (mut pen, mut list) = (Pen::new(2), Pen::new(2));
     let mut failed = false;
-    for (name, run) in ROWS {
+    for (name, run) in ROWS.iter().chain(busy::ROWS) {
         for store in [&PLAIN, &ARCHIVE] {
             pen::crashes_name(format!("edges row `{name}` on {}", store.name));
-            let mut row = Row { store, name, failed: false };
+            let mut row = Row { store, name, list: &mut list, failed: false };
             run(&mut row, &mut pen);
             failed |= row.failed;
         }
     }
     if !failed {
-        println!("edges: {} rows hold on both stores", ROWS.len());
+        println!("edges: {} rows hold on both stores", ROWS.len() + busy::ROWS.len());
     }
     !failed
 }

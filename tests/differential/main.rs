@@ -3,20 +3,23 @@
 //!     differential [SEED [PART CASE]]
 //!
 //! The first disagreement ends the run with status 1, the seed, the case and the words; a crash, with the case, or with the edge's row and the store.
-//! Every slice given to the archive touches an unreadable page, and in one case out of eight it is read-only while lookup and check run.
+//! Every slice given to the archive touches an unreadable page, and in one case out of eight the wall is read-only while lookup, check and busy run.
 
 mod archive;
+mod busy;
 mod corners;
 mod edges;
+mod listed;
 mod met;
 mod parts;
 mod pen;
 mod store;
 mod walls;
 
+use busy::Lists;
 use met::Met;
 use parts::PARTS;
-use pen::Pen;
+use pen::Pens;
 use std::process::exit;
 use std::time::Instant;
 use store::Answer;
@@ -30,36 +33,15 @@ pub enum Call {
     Lookup { flow: u64 },
     Increment { flow: u64 },
     Check,
+    Busy { floor: u64, length: usize },
     Close,
     Slot { bits: u64, flow: u64 },
     Limits { shape: u64, width: u64 },
     Image { length: usize, n: u64 },
 }
 
-/// The archive's slices: in the small pen, or in the large one if that is too small.
-struct Pens {
-    small: Pen,
-    large: Pen,
-    at_end: bool,
-}
-
-const SMALL: usize = 8;
-const LARGE: usize = 4096;
-
-impl Pens {
-    fn pen(&mut self, length: usize) -> &mut Pen {
-        if length <= SMALL * 512 {
-            &mut self.small
-        } else {
-            &mut self.large
-        }
-    }
-
-    fn words(&mut self, length: usize) -> &mut [u64] {
-        let at_end = self.at_end;
-        self.pen(length).words(length, at_end)
-    }
-}
+/// More words than any wall here has.
+const WORDS: usize = 1 << 21;
 
 pub struct Run {
     seed: u64,
@@ -70,14 +52,25 @@ pub struct Run {
     ours: Vec<u64>,
     before: Vec<u64>,
     pens: Pens,
+    lists: Lists,
     sealed: bool,
     met: Met,
 }
 
 impl Run {
     fn new(seed: u64) -> Run {
-        let pens = Pens { small: Pen::new(SMALL), large: Pen::new(LARGE), at_end: true };
-        Run { seed, part: 0, case: 0, rng: Rng::new(seed, 0, 0), ours: Vec::new(), before: Vec::new(), pens, sealed: false, met: Met::default() }
+        Run {
+            seed,
+            part: 0,
+            case: 0,
+            rng: Rng::new(seed, 0, 0),
+            ours: Vec::new(),
+            before: Vec::new(),
+            pens: Pens::new(WORDS),
+            lists: Lists::new(),
+            sealed: false,
+            met: Met::default(),
+        }
     }
 
     fn start(&mut self, part: usize, case: u64) {
@@ -86,6 +79,7 @@ impl Run {
         self.rng = Rng::new(self.seed, part as u64, case);
         self.pens.at_end = !self.rng.one_in(4);
         self.sealed = self.rng.one_in(8);
+        self.lists.start(Rng::new(!self.seed, part as u64, case));
         pen::crashes_name(self.name());
     }
 
@@ -111,10 +105,21 @@ impl Run {
     fn call(&mut self, call: Call) -> Answer {
         self.before.clear();
         self.before.extend_from_slice(&self.ours);
+        let ours = self.call_store(call);
+        let theirs = self.call_archive(call);
+        let lists_agree = !matches!(call, Call::Busy { .. }) || self.lists.agree();
+        if self.ours[..] != *self.pens.words(self.ours.len()) || !lists_agree {
+            self.disagree(call, ours, theirs);
+        }
+        if let Call::Increment { flow } = call {
+            self.met.step(&self.before, &self.ours, flow, ours);
+        }
+        self.compare(call, ours, theirs)
+    }
 
+    fn call_store(&mut self, call: Call) -> Answer {
         let words = &mut self.ours;
-        let length = words.len();
-        let ours = match call {
+        match call {
             Call::Raise { shape, width, bits, limit, full } => store::raise(words, shape, width, bits, limit, full),
             Call::Lookup { flow } => store::lookup(words, flow),
             Call::Increment { flow } => store::increment(words, flow),
@@ -123,34 +128,41 @@ impl Run {
                 self.met.finding(words, &finding);
                 finding.answer()
             }
+            Call::Busy { floor, length } => {
+                let list = self.lists.lend(length);
+                match store::flow_counts(words) {
+                    Ok(counts) => {
+                        self.met.busy(words, &counts, floor, length);
+                        store::list_flows(&counts, floor, list)
+                    }
+                    Err(number) => (number, 0),
+                }
+            }
             Call::Close => store::close(words),
             _ => unreachable!("not a call on words"),
-        };
+        }
+    }
 
-        let seal = self.sealed && matches!(call, Call::Lookup { .. } | Call::Check);
+    fn call_archive(&mut self, call: Call) -> Answer {
+        let length = self.ours.len();
+        let seal = self.sealed && matches!(call, Call::Lookup { .. } | Call::Check | Call::Busy { .. });
         if seal {
             self.pens.pen(length).seal(true);
         }
         let words = self.pens.words(length);
-        let theirs = match call {
+        let answer = match call {
             Call::Raise { shape, width, bits, limit, full } => archive::raise(words, shape, width, bits, limit, full),
             Call::Lookup { flow } => archive::lookup(words, flow),
             Call::Increment { flow } => archive::increment(words, flow),
             Call::Check => archive::check(words),
+            Call::Busy { floor, .. } => self.lists.ask_archive(words, floor),
             Call::Close => archive::close(words),
             _ => unreachable!("not a call on words"),
         };
         if seal {
             self.pens.pen(length).seal(false);
         }
-
-        if self.ours[..] != *self.pens.words(length) {
-            self.disagree(call, ours, theirs);
-        }
-        if let Call::Increment { flow } = call {
-            self.met.step(&self.before, &self.ours, flow, ours);
-        }
-        self.compare(call, ours, theirs)
+        answer
     }
 
     /// Compares two answers and counts them.
@@ -194,6 +206,9 @@ impl Run {
             match (0..words.len()).find(|i| words[*i] != self.ours[*i]) {
                 Some(i) => println!("first differing word {i}: before {:016x}, store.rs {:016x}, the archive {:016x}", self.before[i], self.ours[i], words[i]),
                 None => println!("no word differs"),
+            }
+            if let Call::Busy { .. } = call {
+                self.lists.describe();
             }
             println!("{}", met::describe(&self.before));
             for (n, line) in self.before.chunks(6).take(70).enumerate() {

@@ -1,14 +1,19 @@
 //! What a run met: a reader sees that it reaches what it is to test, and a run that does not fails.
 
+use crate::listed::Listed;
 use crate::store::{self, Answer, Finding, PLACES};
 use crate::walls::Plan;
 use crate::Call;
 use std::collections::BTreeMap;
 
-const CALLS: [&str; 8] = ["raise", "lookup", "increment", "check", "close", "slot", "limits", "image"];
+const CALLS: [&str; 9] = ["raise", "lookup", "increment", "check", "busy", "close", "slot", "limits", "image"];
 
-/// The numbers that the document's table lets each call give. 11 is left out: the bucket's counts add up to at most the total, so 10 or 9 comes before it.
-const GIVEN: [&[usize]; 8] = [&[0, 1, 2, 3, 4, 5, 6], &[0, 7, 8, 9], &[0, 7, 8, 9, 10, 12], &[0, 7, 9, 13], &[0, 7], &[0, 3, 8], &[0, 1, 2], &[0, 6]];
+/// 0 to 14.
+const NUMBERS: usize = 15;
+
+/// The numbers that the documents let each call give. 11 is left out: the bucket's counts add up to at most the total, so 10 or 9 comes before it.
+const GIVEN: [&[usize]; 9] =
+    [&[0, 1, 2, 3, 4, 5, 6], &[0, 7, 8, 9], &[0, 7, 8, 9, 10, 12], &[0, 7, 9, 13], &[0, 7, 9, 13, 14], &[0, 7], &[0, 3, 8], &[0, 1, 2], &[0, 6]];
 
 const BAD_HEADER: [&str; 13] =
     ["fewer than 4 words", "mark", "version", "shape", "width 0", "width", "b", "M", "J", "length", "total over M", "U over J", "spare bits of word 3"];
@@ -48,7 +53,7 @@ const LARGEST: [&str; 6] = [
 
 #[derive(Default)]
 pub struct Met {
-    numbers: [[u64; 14]; 8],
+    numbers: [[u64; NUMBERS]; 9],
     headers: BTreeMap<&'static str, u64>,
     /// By reason and shape: walls checked for which it holds, and those for which nothing else does.
     unsound: BTreeMap<(&'static str, u64), [u64; 2]>,
@@ -58,9 +63,11 @@ pub struct Met {
     largest: [[u64; 6]; 3],
     /// Walls checked whose lowest unsound bucket is the last, by shape from 3 and b from 6.
     last: [[u64; 17]; 3],
+    listed: Listed,
 }
 
-fn plan_of(words: &[u64]) -> Plan {
+/// The plan of a wall whose header is good.
+pub fn plan_of(words: &[u64]) -> Plan {
     let byte = |n: u32| words[0] >> (8 * n) & 0xff;
     Plan::new(byte(5), byte(6), byte(7), words[3] as usize & 0xffff)
 }
@@ -86,17 +93,18 @@ impl Met {
             Call::Lookup { .. } => 1,
             Call::Increment { .. } => 2,
             Call::Check => 3,
-            Call::Close => 4,
-            Call::Slot { .. } => 5,
-            Call::Limits { .. } => 6,
-            Call::Image { .. } => 7,
+            Call::Busy { .. } => 4,
+            Call::Close => 5,
+            Call::Slot { .. } => 6,
+            Call::Limits { .. } => 7,
+            Call::Image { .. } => 8,
         };
         self.numbers[index][answer.0 as usize] += 1;
     }
 
     pub fn finding(&mut self, words: &[u64], finding: &Finding) {
         let reasons = match finding {
-            Finding::Sound => return,
+            Finding::Sound(_) => return,
             Finding::BadHeader(reason) => {
                 *self.headers.entry(reason).or_default() += 1;
                 return;
@@ -133,6 +141,11 @@ impl Met {
             _ => [holders.len() > 1, used == 4096 && holders.is_empty(), false, used == 4095 && rest],
         };
         self.largest[shape].iter_mut().zip(met).for_each(|(count, met)| *count += met as u64);
+    }
+
+    /// A busy call on a wall that the check accepts, which has these counts by flow.
+    pub fn busy(&mut self, words: &[u64], counts: &[u64], floor: u64, length: usize) {
+        self.listed.busy(&plan_of(words), words, counts, floor, length);
     }
 
     /// An increment and its wall before and after.
@@ -172,7 +185,7 @@ impl Met {
     pub fn print(&self) {
         println!("\nanswers by number:");
         print!("{:9} {:>9}", "", "calls");
-        (0..14).for_each(|number| print!(" {number:>8}"));
+        (0..NUMBERS).for_each(|number| print!(" {number:>8}"));
         println!();
         for (call, numbers) in CALLS.iter().zip(&self.numbers) {
             print!("{call:9} {:>9}", numbers.iter().sum::<u64>());
@@ -180,7 +193,7 @@ impl Met {
             println!();
         }
         print!("{:9} {:>9}", "all", self.calls());
-        (0..14).for_each(|number| print!(" {:>8}", self.numbers.iter().map(|numbers| numbers[number]).sum::<u64>()));
+        (0..NUMBERS).for_each(|number| print!(" {:>8}", self.numbers.iter().map(|numbers| numbers[number]).sum::<u64>()));
         println!("\n\nincrements, by shape 3, 4, 5:");
         for (step, name) in STEPS.iter().enumerate() {
             for level in 0..6 {
@@ -191,6 +204,7 @@ impl Met {
                 }
             }
         }
+        self.listed.print();
         self.print_corners();
         println!("\nwalls checked that are unsound for this reason, and for it alone, by shape 3, 4, 5:");
         for reason in UNSOUND {
@@ -246,6 +260,7 @@ impl Met {
         missing.extend(largest);
         let last = (6..=22).filter(|bits| self.last[n][bits - 6] == 0).map(|bits| format!("no last bucket is unsound at b {bits}"));
         missing.extend(last);
+        missing.extend(self.listed.missing(n).map(|name| format!("no busy call: {name}")));
         missing
     }
 

@@ -1,6 +1,7 @@
 //! The parts of a run: which walls are made, and which calls on them. Those of the largest sizes that are not random are in corners.rs.
 
 use crate::archive;
+use crate::busy;
 use crate::corners;
 use crate::store::{self, PLACES};
 use crate::walls::{self, Plan, Rng, Wall};
@@ -58,12 +59,15 @@ fn raise(run: &mut Run, case: u64) {
             let (number, _) = run.call(Call::Raise { shape, width, bits, limit, full });
             if number == 0 {
                 run.call(Call::Check);
+                let none = vec![0; plan.flows() as usize];
+                busy::known(run, &none, 1);
                 for flow in [0, 1, plan.flows() - 1, plan.flows(), u64::MAX] {
                     run.call(Call::Lookup { flow });
                     run.call(Call::Increment { flow });
                 }
                 run.call(Call::Close);
                 run.call(Call::Check);
+                busy::known(run, &none, 1);
             }
         }
     }
@@ -99,7 +103,7 @@ fn hostile(run: &mut Run, _: u64) {
     }
 }
 
-/// Increments of skewed flows, with lookups and checks between, over a sound wall whose counts are known by flow.
+/// Increments of skewed flows, with lookups, checks and busy lists between, over a sound wall whose counts are known by flow.
 fn drive(run: &mut Run, plan: &Plan, counts: &mut [u64], hot: &[u64], steps: u64, check_each: u64) {
     for step in 0..steps {
         let rng = &mut run.rng;
@@ -126,12 +130,14 @@ fn drive(run: &mut Run, plan: &Plan, counts: &mut [u64], hot: &[u64], steps: u64
         }
         if step % check_each == 0 {
             run.answers(Call::Check, (0, 0));
+            busy::known(run, counts, 1);
         }
     }
     for flow in 0..plan.flows() {
         look(run, plan, counts, flow);
     }
     run.answers(Call::Check, (0, 0));
+    busy::known(run, counts, 3);
 }
 
 fn look(run: &mut Run, plan: &Plan, counts: &[u64], flow: u64) {
@@ -200,26 +206,37 @@ fn long(run: &mut Run, case: u64) {
     agrees_with_history(run, &plan, &counts);
 }
 
+/// The counts of each bucket, in the order of the flows.
+fn by_flow(plan: &Plan, counts: &[Vec<u64>]) -> Vec<u64> {
+    let mut by_flow = vec![0; plan.flows() as usize];
+    for (n, bucket) in counts.iter().enumerate() {
+        for (place, count) in bucket.iter().enumerate() {
+            by_flow[plan.flow(n, place) as usize] = *count;
+        }
+    }
+    by_flow
+}
+
 /// Runs from a sound wall whose counts stand where increments would take long to bring them.
 fn grown(run: &mut Run, case: u64) {
     let plan = grid_plan(case);
     let wall = Wall::random(&mut run.rng, &plan);
     run.load(&wall.words());
-    let mut counts = vec![0; plan.flows() as usize];
+    let by_bucket = wall.counts();
+    let mut counts = by_flow(&plan, &by_bucket);
     let mut hot = Vec::new();
-    for (n, bucket) in wall.counts().iter().enumerate() {
+    for (n, bucket) in by_bucket.iter().enumerate() {
         for (place, count) in bucket.iter().enumerate() {
-            let flow = plan.flow(n, place);
-            counts[flow as usize] = *count;
             // those that the next increments carry into a new level or through several
             if (2..=plan.levels.count()).any(|d| (count + 2) % plan.start(d) < 2) || run.rng.one_in(20) {
-                hot.push(flow);
+                hot.push(plan.flow(n, place));
             }
         }
     }
     run.rng.shuffle(&mut hot);
     hot.push(run.rng.below(plan.flows()));
     run.answers(Call::Check, (0, 0));
+    busy::known(run, &counts, 1);
     let steps = 20 + run.rng.below(100);
     drive(run, &plan, &mut counts, &hot, steps, 25);
 }
@@ -227,7 +244,10 @@ fn grown(run: &mut Run, case: u64) {
 /// Every call on these words. Each increment and the close start from them again.
 fn all_calls(run: &mut Run, plan: &Plan, words: &[u64], bucket: usize) {
     run.load(words);
-    run.call(Call::Check);
+    let checked = run.call(Call::Check);
+    if run.lists.rng.one_in(3) {
+        busy::as_checked(run, checked);
+    }
     let rng = &mut run.rng;
     let far = rng.pick(&[plan.flows(), plan.flows() - 1, u64::MAX, 1 << 22]);
     let mut flows = vec![plan.flow(bucket, rng.index(PLACES)), far, rng.below(plan.flows())];
@@ -293,7 +313,10 @@ fn bits(run: &mut Run, case: u64) {
         words[bit / 64] ^= 1 << (bit % 64);
         let flow = run.rng.below(plan.flows());
         run.load(&words);
-        run.call(Call::Check);
+        let checked = run.call(Call::Check);
+        if run.lists.rng.one_in(8) {
+            busy::as_checked(run, checked);
+        }
         run.call(Call::Lookup { flow });
         run.call(Call::Increment { flow });
         run.call(Call::Close);
@@ -421,6 +444,13 @@ fn large(run: &mut Run, case: u64) {
             run.call(Call::Lookup { flow });
         }
     }
+    if bits <= 18 {
+        let mut counts = vec![0; plan.flows() as usize];
+        for flow in [0, 1, plan.flows() - 1] {
+            counts[flow as usize] = 3;
+        }
+        busy::known(run, &counts, 1);
+    }
     run.call(Call::Close);
     if bits == 22 {
         let above = Plan::new(shape, 1, 23, 0);
@@ -441,6 +471,7 @@ fn large(run: &mut Run, case: u64) {
         run.load(&words);
         run.answers(Call::Check, (0, 0));
         let counts = wall.counts();
+        busy::known(run, &by_flow(&plan, &counts), 2);
         for _ in 0..20 {
             let n = match wall.moved.is_empty() || run.rng.one_in(4) {
                 true => run.rng.index(buckets),

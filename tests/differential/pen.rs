@@ -52,6 +52,37 @@ impl Pen {
     }
 }
 
+/// Slices in the small pen, or in the large one if that is too small.
+pub struct Pens {
+    pub small: Pen,
+    large: Pen,
+    pub at_end: bool,
+}
+
+/// Pages of the small pen, and words of a page.
+const SMALL: usize = 8;
+const WORDS: usize = PAGE / 8;
+
+impl Pens {
+    /// For slices of up to so many words.
+    pub fn new(most: usize) -> Pens {
+        Pens { small: Pen::new(SMALL), large: Pen::new((most + WORDS - 1) / WORDS), at_end: true }
+    }
+
+    pub fn pen(&mut self, length: usize) -> &mut Pen {
+        if length <= SMALL * WORDS {
+            &mut self.small
+        } else {
+            &mut self.large
+        }
+    }
+
+    pub fn words(&mut self, length: usize) -> &mut [u64] {
+        let at_end = self.at_end;
+        self.pen(length).words(length, at_end)
+    }
+}
+
 /// What a crash names: the case of a part, or a row of the edges and its store.
 static NAME: Mutex<String> = Mutex::new(String::new());
 

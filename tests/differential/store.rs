@@ -1,4 +1,4 @@
-//! The counter store a second time, written from the text of the scope of work and from nothing under crates/.
+//! The counter store a second time, written from the text of the scope of work and of the requests, and from nothing under crates/.
 //!
 //! It is slow and plain on purpose. A bucket is taken out of a wall as one list per level, holding the entries in use and their marks; a counter that grows into
 //! a level is inserted into that level's list. Each answer is a number of the document's table and a value. Sums are made in 128 bits.
@@ -353,7 +353,8 @@ pub fn counts(words: &[u64], bucket: usize) -> Option<Vec<u64>> {
 
 /// What a whole wall is found to be.
 pub enum Finding {
-    Sound,
+    /// The counts of each bucket.
+    Sound(Vec<Vec<u64>>),
     BadHeader(&'static str),
     /// The lowest unsound bucket and what is unsound about it.
     Bucket(usize, Vec<&'static str>),
@@ -364,7 +365,7 @@ pub enum Finding {
 impl Finding {
     pub fn answer(&self) -> Answer {
         match self {
-            Finding::Sound => (0, 0),
+            Finding::Sound(_) => (0, 0),
             Finding::BadHeader(_) => (7, 0),
             Finding::Bucket(n, _) => (9, *n as u64),
             Finding::Wall(_) => (13, 0),
@@ -377,6 +378,7 @@ pub fn examine(words: &[u64]) -> Finding {
         Ok(header) => header,
         Err(fault) => return Finding::BadHeader(fault),
     };
+    let mut all = Vec::new();
     let mut sum = 0u128;
     let mut holders = vec![0; header.used];
     for n in 0..header.buckets() {
@@ -387,6 +389,7 @@ pub fn examine(words: &[u64]) -> Finding {
                 if bucket.flag {
                     holders[bucket.number] += 1;
                 }
+                all.push(counts);
             }
         }
     }
@@ -407,7 +410,7 @@ pub fn examine(words: &[u64]) -> Finding {
         faults.push("a full-size bucket from U up not 0");
     }
     if faults.is_empty() {
-        Finding::Sound
+        Finding::Sound(all)
     } else {
         Finding::Wall(faults)
     }
@@ -491,6 +494,37 @@ pub fn check(words: &[u64]) -> Answer {
     examine(words).answer()
 }
 
+/// The count of each flow, or the number with which the check refuses the words.
+pub fn flow_counts(words: &[u64]) -> Result<Vec<u64>, u64> {
+    match examine(words) {
+        Finding::Sound(counts) => {
+            let slots = slots(header(words).map_err(|_| 7u64)?.bits);
+            Ok(slots.iter().map(|slot| counts[slot / PLACES][slot % PLACES]).collect())
+        }
+        finding => Err(finding.answer().0),
+    }
+}
+
+/// Lists the flows whose count is at least the floor. These are the counts of all flows.
+pub fn list_flows(counts: &[u64], floor: u64, list: &mut [u64]) -> Answer {
+    let busy: Vec<usize> = (0..counts.len()).filter(|flow| counts[*flow] >= floor).collect();
+    if 2 * busy.len() > list.len() {
+        return (14, 0);
+    }
+    for (n, flow) in busy.iter().enumerate() {
+        list[2 * n] = *flow as u64;
+        list[2 * n + 1] = counts[*flow];
+    }
+    (0, busy.len() as u64)
+}
+
+pub fn busy(words: &[u64], floor: u64, list: &mut [u64]) -> Answer {
+    match flow_counts(words) {
+        Ok(counts) => list_flows(&counts, floor, list),
+        Err(number) => (number, 0),
+    }
+}
+
 pub fn close(words: &mut [u64]) -> Answer {
     let header = match header(words) {
         Ok(header) => header,
@@ -509,6 +543,16 @@ pub fn slot(bits: u64, flow: u64) -> Answer {
         return (8, 0);
     }
     (0, (0..bits).map(|i| (flow >> i & 1) << (bits - 1 - i)).sum())
+}
+
+/// The slots of all flows. A bit more is the flow's highest and the slot's lowest.
+fn slots(bits: u64) -> Vec<usize> {
+    let mut slots = vec![0];
+    for _ in 0..bits {
+        let doubled: Vec<usize> = slots.iter().map(|slot| 2 * slot).collect();
+        slots = doubled.iter().copied().chain(doubled.iter().map(|slot| slot + 1)).collect();
+    }
+    slots
 }
 
 pub fn limits(shape: u64, width: u64) -> Answer {

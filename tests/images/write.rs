@@ -21,10 +21,14 @@ struct Golden {
     words: Vec<u64>,
     /// The flows that are looked up and incremented.
     flows: Vec<u64>,
+    lists: Vec<List>,
 }
 
 /// A flow and its count.
 type Counts<'a> = &'a [(u64, u64)];
+
+/// A busy list: its floor, and the words lent for it.
+type List = (u64, usize);
 
 /// Bucket and place of a flow.
 fn stands(plan: &Plan, flow: u64) -> (usize, usize) {
@@ -33,7 +37,7 @@ fn stands(plan: &Plan, flow: u64) -> (usize, usize) {
 }
 
 /// A sound wall of the buckets' own counts, and of the moved ones by full-size number.
-fn golden(name: &'static str, plan: &Plan, limit: u64, own: Counts, moved: &[Counts], flows: &[u64]) -> Golden {
+fn golden(name: &'static str, plan: &Plan, limit: u64, own: Counts, moved: &[Counts], flows: &[u64], lists: &[List]) -> Golden {
     let mut wall = Wall { plan: plan.clone(), limit, own: vec![vec![0; PLACES]; plan.buckets()], moved: Vec::new() };
     for (flow, count) in own {
         let (bucket, place) = stands(plan, *flow);
@@ -52,15 +56,15 @@ fn golden(name: &'static str, plan: &Plan, limit: u64, own: Counts, moved: &[Cou
     for (number, counts) in moved.iter().enumerate() {
         write!(about, "; moved in full-size bucket {number} {}", list(counts)).unwrap();
     }
-    Golden { name, about, words: wall.words(), flows: flows.to_vec() }
+    Golden { name, about, words: wall.words(), flows: flows.to_vec(), lists: lists.to_vec() }
 }
 
-/// The image of this name with words changed, or cut off.
+/// The image of this name with words changed, or cut off. One busy list is enough: it is refused as the check is.
 fn damaged(all: &[Golden], of: &str, name: &'static str, about: &str, change: impl Fn(&mut Vec<u64>)) -> Golden {
     let sound = all.iter().find(|golden| golden.name == of).unwrap();
     let mut words = sound.words.clone();
     change(&mut words);
-    Golden { name, about: format!("{of}, but {about}"), words, flows: sound.flows.clone() }
+    Golden { name, about: format!("{of}, but {about}"), words, flows: sound.flows.clone(), lists: sound.lists[..1].to_vec() }
 }
 
 /// Sixteen flows of one bucket: fifteen have come to 2 and the last to 1.
@@ -73,14 +77,14 @@ fn worked_example() -> Vec<Golden> {
     let (plain, full) = (Plan::new(3, 1, 6, 0), Plan::new(3, 1, 6, 1));
     let brimful = brimful(0, 1);
     vec![
-        golden("raised", &plain, 100, &[], &[], &[0, 63, 64]),
-        golden("risen", &plain, 100, &[(1, 5), (2, 2)], &[], &[1, 2, 3]),
-        golden("carrying", &plain, 100, &[(1, 31)], &[], &[1]),
-        golden("third", &plain, 100, &[(1, 32), (2, 2)], &[], &[1, 2]),
-        golden("brimful", &plain, 100, &brimful, &[], &[15, 0]),
-        golden("brimful-full", &full, 100, &brimful, &[], &[15, 0]),
-        golden("overflowed", &full, 100, &brimful, &[&[(15, 2)]], &[15, 0, 63]),
-        golden("moved", &full, 100, &brimful, &[&[(0, 3), (15, 2)]], &[15, 0, 1]),
+        golden("raised", &plain, 100, &[], &[], &[0, 63, 64], &[(1, 0), (0, 127)]),
+        golden("risen", &plain, 100, &[(1, 5), (2, 2)], &[], &[1, 2, 3], &[(1, 4), (1, 3), (5, 3), (6, 4), (u64::MAX, 0), (0, 128)]),
+        golden("carrying", &plain, 100, &[(1, 31)], &[], &[1], &[(31, 2), (32, 0)]),
+        golden("third", &plain, 100, &[(1, 32), (2, 2)], &[], &[1, 2], &[(2, 4), (32, 2)]),
+        golden("brimful", &plain, 100, &brimful, &[], &[15, 0], &[(1, 32), (3, 0)]),
+        golden("brimful-full", &full, 100, &brimful, &[], &[15, 0], &[(2, 30)]),
+        golden("overflowed", &full, 100, &brimful, &[&[(15, 2)]], &[15, 0, 63], &[(2, 32)]),
+        golden("moved", &full, 100, &brimful, &[&[(0, 3), (15, 2)]], &[15, 0, 1], &[(3, 2), (2, 31)]),
     ]
 }
 
@@ -90,15 +94,16 @@ fn other_shapes() -> Vec<Golden> {
     // the even flows stand in bucket 0, which has no 26th entry of level 2, the odd ones in bucket 1, which has no third of level 4
     let mut own: Vec<(u64, u64)> = (0..25).map(|i| (2 * i, 128 + i)).collect();
     own.extend([(50, 127), (1, 8192), (3, 100_000), (5, 8191), (7, 600), (9, 511), (11, 127), (127, 1)]);
+    let moved: [Counts; 2] = [&[(5, 8192)], &[(50, 130), (0, 200)]];
     let five = [(0, 4096), (1, 4095), (2, 256), (3, 255), (4, 32), (5, 31), (6, 8), (42, 7), (63, 1)];
     let total = five.iter().map(|(_, count)| count).sum();
     let both = [brimful(0, 2), brimful(1, 2)].concat();
     vec![
-        golden("two", &Plan::new(3, 1, 7, 2), 100, &both, &[&[(30, 2)], &[(31, 2)]], &[30, 31, 0, 1]),
-        golden("wide", &Plan::new(3, 13, 6, 0), (1 << 30) - 1, &wide, &[], &[0, 1, 2, 3, 61, 63]),
-        golden("four", &Plan::new(4, 7, 7, 2), 1_000_000, &own, &[&[(5, 8192)], &[(50, 130), (0, 200)]], &[5, 50, 0, 2, 3, 7, 9, 125]),
-        golden("five", &Plan::new(5, 3, 6, 0), 10_000, &five, &[], &[0, 1, 3, 5, 42, 62]),
-        golden("at-limit", &Plan::new(5, 3, 6, 0), total, &five, &[], &[0, 1, 62]),
+        golden("two", &Plan::new(3, 1, 7, 2), 100, &both, &[&[(30, 2)], &[(31, 2)]], &[30, 31, 0, 1], &[(2, 64)]),
+        golden("wide", &Plan::new(3, 13, 6, 0), (1 << 30) - 1, &wide, &[], &[0, 1, 2, 3, 61, 63], &[(1, 12), (8191, 8), (131_072, 2)]),
+        golden("four", &Plan::new(4, 7, 7, 2), 1_000_000, &own, &moved, &[5, 50, 0, 2, 3, 7, 9, 125], &[(150, 18), (8192, 6), (130, 59)]),
+        golden("five", &Plan::new(5, 3, 6, 0), 10_000, &five, &[], &[0, 1, 3, 5, 42, 62], &[(1, 18), (32, 10), (256, 5)]),
+        golden("at-limit", &Plan::new(5, 3, 6, 0), total, &five, &[], &[0, 1, 62], &[(4096, 2)]),
     ]
 }
 
@@ -132,12 +137,28 @@ fn answer(text: &mut String, golden: &Golden, call: &str, argument: Option<u64>,
     text.push('\n');
 }
 
+/// The same of a busy list, whose argument is its floor and the words lent, and each entry as flow:count.
+fn busy(text: &mut String, golden: &Golden, (floor, length): List) {
+    let mut list = vec![u64::MAX; length];
+    let (number, value) = store::busy(&golden.words, floor, &mut list);
+    let (entries, rest) = list.split_at(2 * value as usize);
+    assert!(rest.iter().all(|word| *word == u64::MAX));
+    write!(text, "{} busy {floor},{length} {number} {value}", golden.name).unwrap();
+    for entry in entries.chunks(2) {
+        write!(text, " {}:{}", entry[0], entry[1]).unwrap();
+    }
+    text.push('\n');
+}
+
 fn answers(golden: &Golden) -> String {
     let mut text = format!("\n# {}: {}\n", golden.name, golden.about);
     answer(&mut text, golden, "check", None, |words| store::check(words));
     for flow in &golden.flows {
         answer(&mut text, golden, "lookup", Some(*flow), |words| store::lookup(words, *flow));
         answer(&mut text, golden, "increment", Some(*flow), |words| store::increment(words, *flow));
+    }
+    for list in &golden.lists {
+        busy(&mut text, golden, *list);
     }
     answer(&mut text, golden, "close", None, |words| store::close(words));
     text
@@ -149,7 +170,8 @@ fn main() {
     all.extend(other_shapes());
     all.extend(damages(&all));
     let mut text = "# Calls on the images, each on the image as it stands in its file: image, call, argument, number, value, and every word that\n\
-         # has changed, as index=hex. Counts are written flow:count.\n"
+         # has changed, as index=hex. Counts are written flow:count. The argument of busy is the floor and how many words are lent for\n\
+         # the list; its entries come last, and every other word of the list stays as it was.\n"
         .to_string();
     for golden in &all {
         let bytes: Vec<u8> = golden.words.iter().flat_map(|word| word.to_le_bytes()).collect();

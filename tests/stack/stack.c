@@ -2,7 +2,7 @@
  * The stack of each call over a wall, beyond its return address. The walls are written word by word as docs/WALL.md has them. Prints the most bytes of each
  * call at each shape; the exit status is 1 where one reaches the line, or where a call does not answer what is expected of it.
  *
- * STORE is the prefix of the five calls.
+ * STORE is the prefix of the six calls.
  */
 #include "painted.h"
 #include "wall.h"
@@ -19,7 +19,7 @@
 #define NAMED(store, call) JOINED(store, call)
 #define CALL(call) NAMED(STORE, call)
 
-enum { SHAPES = 3, RAISE = 0, LOOKUP, INCREMENT, CHECK, CLOSE, CALL_KINDS };
+enum { SHAPES = 3, RAISE = 0, LOOKUP, INCREMENT, CHECK, BUSY, CLOSE, CALL_KINDS };
 
 /* Two buckets; the second has the counts. */
 enum { HEAD_WORDS = 4, PLACES = 64, BITS = 7, BUCKETS = 2, BUCKET = 1, FULL = 2, FLOWS = 1 << BITS, FULL_WORDS = 65 };
@@ -27,7 +27,7 @@ enum { MOST_WORDS = WALL_WORDS(WALL_MAX_SHAPE, WALL_MAX_WIDTH, BITS, FULL) };
 
 #define ONE ((uint64_t)1)
 
-static const char *const names[CALL_KINDS] = {"raise", "lookup", "increment", "check", "close"};
+static const char *const names[CALL_KINDS] = {"raise", "lookup", "increment", "check", "busy", "close"};
 
 /* Entries and widths of levels 2 and up, by shape - 3 and level - 2. */
 static const unsigned entries[SHAPES][4] = {{15, 3}, {25, 10, 2}, {25, 10, 3, 1}};
@@ -38,6 +38,7 @@ typedef struct {
     wall_answer (*lookup)(const uint64_t *, size_t, uint64_t);
     wall_answer (*increment)(uint64_t *, size_t, uint64_t);
     wall_answer (*check)(const uint64_t *, size_t);
+    wall_answer (*busy)(const uint64_t *, size_t, uint64_t, uint64_t *, size_t);
     wall_answer (*close)(uint64_t *, size_t);
 } calls;
 
@@ -64,17 +65,22 @@ static wall_answer no_check(const uint64_t *w UNUSED, size_t n UNUSED)
     return (wall_answer){0, 0};
 }
 
+static wall_answer no_busy(const uint64_t *w UNUSED, size_t n UNUSED, uint64_t floor UNUSED, uint64_t *list UNUSED, size_t m UNUSED)
+{
+    return (wall_answer){0, 0};
+}
+
 static wall_answer no_close(uint64_t *w UNUSED, size_t n UNUSED)
 {
     return (wall_answer){0, 0};
 }
 
-static const calls measured = {CALL(raise), CALL(lookup), CALL(increment), CALL(check), CALL(close)};
-static const calls empty = {no_raise, no_lookup, no_increment, no_check, no_close};
+static const calls measured = {CALL(raise), CALL(lookup), CALL(increment), CALL(check), CALL(busy), CALL(close)};
+static const calls empty = {no_raise, no_lookup, no_increment, no_check, no_busy, no_close};
 
-/* The wall, the arguments of a raise, and the call under way. */
-static uint64_t words[MOST_WORDS], shape, width, bits, limit, full, flow;
-static size_t length;
+/* The wall, the arguments of a raise, the list and the least count of a busy list, and the call under way. */
+static uint64_t words[MOST_WORDS], shape, width, bits, limit, full, flow, list[2 * FLOWS], listed_from;
+static size_t length, list_length;
 static const calls *volatile by;
 static unsigned kind;
 static volatile wall_answer came;
@@ -95,6 +101,9 @@ static void make_call(void)
         break;
     case CHECK:
         came = by->check(words, length);
+        break;
+    case BUSY:
+        came = by->busy(words, length, listed_from, list, list_length);
         break;
     default:
         came = by->close(words, length);
@@ -224,7 +233,15 @@ static void raises(void)
     raised(FULL);
 }
 
-/* The calls over a wall as it stands, at one place, and a check. */
+/* All flows listed, all refused for one word too few, and none listed. */
+static void lists(void)
+{
+    listed_from = 0, list_length = 2 * FLOWS, take_value(BUSY, FLOWS);
+    list_length--, take(BUSY, WALL_LIST_SHORT), list_length++;
+    listed_from = UINT64_MAX, take_value(BUSY, 0);
+}
+
+/* The calls over a wall as it stands, at one place, and those over all of it. */
 static void all_at(unsigned place, uint64_t count)
 {
     flow = flow_at(place);
@@ -232,6 +249,7 @@ static void all_at(unsigned place, uint64_t count)
     take_value(INCREMENT, count + 1);
     take_value(LOOKUP, count + 1);
     take_value(CHECK, 0);
+    lists();
 }
 
 static void all_refused(uint64_t number)
@@ -239,6 +257,7 @@ static void all_refused(uint64_t number)
     take(LOOKUP, number);
     take(INCREMENT, number);
     take(CHECK, number);
+    take(BUSY, number);
 }
 
 static void bad_headers_and_flows(void)
@@ -289,7 +308,7 @@ static void damaged(unsigned level)
     *packed ^= ONE << 40, all_refused(WALL_UNSOUND), *packed ^= ONE << 40;
     words[2]--, all_refused(WALL_UNSOUND), words[2]++;
     words[1] = words[2], take(INCREMENT, WALL_AT_LIMIT), words[1] = limit;
-    words[2]++, take(CHECK, WALL_UNSOUND_WALL), words[2]--;
+    words[2]++, take(CHECK, WALL_UNSOUND_WALL), take(BUSY, WALL_UNSOUND_WALL), words[2]--;
     take(CHECK, WALL_DONE);
 }
 
@@ -326,6 +345,7 @@ static void overflow_of(unsigned level)
         take_value(INCREMENT, came.value + 1);
     }
     take(CHECK, WALL_DONE);
+    lists();
     uint64_t *held = words + length - FULL * FULL_WORDS + PLACES, count = *held;
     *held = 0, all_refused(WALL_UNSOUND), *held = count;
     words[2]--, all_refused(WALL_UNSOUND), words[2]++;

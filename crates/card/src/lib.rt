@@ -1,7 +1,8 @@
 use answer::Answer;
 ghost use mathlib.Core.Path.{_≡_};
-ghost use Rattle.answer.specs.Answers.{outcomeOf};
+ghost use Rattle.answer.specs.Answers.{listingOf, outcomeOf};
 ghost use Rattle.model.specs.Calls as model;
+ghost use Rattle.model.specs.BusyLists.{busy};
 
 // The calls over a wall for firmware in C; include/wall.h declares them beside those of the host.
 
@@ -38,6 +39,13 @@ pub extern "C" fn wall_check(words: &[u64]) -> Answer
     ensures { λ r. ⌜ outcomeOf r (now (words .entry)) ≡ model.check (now (words .entry)) ⌝ }
 {
     whole::check(words)
+}
+
+#[no_mangle]
+pub extern "C" fn wall_busy(words: &[u64], floor: u64, list: &mut [u64]) -> Answer
+    ensures { λ r. ⌜ listingOf r (now (words .entry)) (now (list .exit)) ≡ busy (now (words .entry)) floor (now (list .entry)) ⌝ }
+{
+    busy::busy(words, floor, list)
 }
 
 #[no_mangle]

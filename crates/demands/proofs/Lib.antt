@@ -5,3 +5,5 @@ pub mod Laid
 pub mod Two
 pub mod Three
 pub mod Starts
+pub mod Totals
+pub mod BusyList

@@ -11,6 +11,7 @@ use Rattle.model.specs.Lists.{choose, every, lowest}
 use Rattle.model.specs.Walls.{Wall, bucketsIn, good, parse}
 use Rattle.model.specs.Sound.{soundAt, soundBuckets, soundRest}
 use Rattle.model.specs.Calls.{Refusal, refuse, Clear, firstMet, reply, outcome, slotRefusals, slotCall, limitsRefusals, limitsCall, imageRefusals, imageCall, raiseRefusals, raise, closeRefusals, close, bucketRefusals, stepRefusals, lookup, increment, checkRefusals, check}
+use Rattle.model.specs.BusyLists.{busyRefusals, busy}
 use Rattle.model.proofs.Refusals.{Named, Apart, first-clear, clear-first, first-met, first-apart, answer-no, lookup-words, lowest-before, lowest-fails}
 use Rattle.model.proofs.Tools.{and-tests}
 use Rattle.model.proofs.Eleven.{never-eleven}
@@ -147,7 +148,7 @@ checked ws = record {
     other false f = refl
 
 pub demand-one : DemandOne
-unfolding slotCall limitsCall imageCall raise close lookup increment
+unfolding slotCall limitsCall imageCall raise close lookup increment busy
 demand-one = record {
   slot-call = λ b y. replied (slotRefusals b y) _ tt;
   limits-call = λ p w. replied (limitsRefusals p w) _ tt;
@@ -157,6 +158,7 @@ demand-one = record {
   lookup-call = λ ws y. answered (bucketRefusals ws y) _ _ ws tt;
   increment-call = λ ws y. answered (bucketRefusals ws y ++ stepRefusals (parse ws) y) _ _ ws tt;
   check-call = checked;
+  busy-call = λ ws floor list. answered (busyRefusals ws floor list) _ _ list tt;
   default = λ p b m j ws. (refl, refl);
   kept = lookup-words;
   eleven = never-eleven;

@@ -6,13 +6,14 @@ use mathlib.Core.List.{List, _∷_, _++_}
 use Prim.Native.Nat.{ℕ, _+_, _*_, _<_}
 use mathlib.Core.Bool.{not}
 use lib.Dec.{T}
-use lib.ListN.{take, drop}
+use lib.ListN.{length, take, drop}
 use Rattle.model.specs.Packed.{pack}
 use Rattle.model.specs.Shapes.{rowsOf, widthAsked, counterBits}
 use Rattle.model.specs.Slots.{slot}
 use Rattle.model.specs.Walls.{Wall, bucketsIn, readHeader, flatten, parse, fresh}
 use Rattle.model.specs.Sound.{count, soundAt}
 use Rattle.model.specs.Calls.{Refusal, Clear, Reply, Outcome, slotRefusals, slotCall, limitsRefusals, limitsCall, imageRefusals, imageCall, raiseRefusals, asked, raise, closeRefusals, close, bucketRefusals, stepRefusals, raisedBy, lookup, increment, checkRefusals, check}
+use Rattle.model.specs.BusyLists.{busyFlows, written, busyRefusals, ofList, busy}
 
 -- n is given exactly where it is the first number of the list to be met; 0 exactly where none is
 pub record Numbered (rs : List Refusal) (n : ℕ) : Type 0 where
@@ -54,6 +55,7 @@ pub record DemandOne : Type 0 where
   pub lookup-call : (ws : List ℕ) (y : ℕ) → Answers (bucketRefusals ws y) (count (parse ws) y) ws ws (lookup ws y)
   pub increment-call : (ws : List ℕ) (y : ℕ) → Answers (bucketRefusals ws y ++ stepRefusals (parse ws) y) (count (parse ws) y + 1) (flatten (raisedBy (parse ws) y 1)) ws (increment ws y)
   pub check-call : (ws : List ℕ) → Checks ws (check ws)
+  pub busy-call : (ws : List ℕ) (floor : ℕ) (list : List ℕ) → Answers (busyRefusals ws floor list) (length (busyFlows (parse ws) floor)) (written (count (parse ws)) (busyFlows (parse ws) floor) list) list (ofList (busy ws floor list))
   -- width 0 asks for 7
   pub default : (p b m j : ℕ) (ws : List ℕ) → (raise p 0 b m j ws ≡ raise p 7 b m j ws) × (limitsCall p 0 ≡ limitsCall p 7)
   -- lookup never changes a word, and number 11 is never given

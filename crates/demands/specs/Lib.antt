@@ -3,3 +3,4 @@ pub mod DemandOne
 pub mod DemandTwo
 pub mod DemandThree
 pub mod Beginnings
+pub mod BusyList

@@ -8,6 +8,7 @@ use Rattle.model.specs.Walls.{good, flatten, parse, fresh}
 use Rattle.model.specs.Sound.{ownCounts, bucketCounts, soundBucket, countsAt, count, soundAt, holders, allCounts, soundRest}
 use Rattle.model.specs.Calls.{raise, lookup, check, holding, overflowed, moveIn, noRoom, step, increment}
 use Rattle.model.specs.Runs.{run}
+use Rattle.model.specs.BusyLists.{busy}
 use Rattle.edges.specs.Edges.{new, times, sixteen, bucket, head, filled, said, Edges}
 
 -- ---- the longer runs, once each
@@ -38,7 +39,7 @@ unfolding good parse flatten readAt ownCounts soundLevels bucketCounts soundBuck
 over1 = refl
 
 pub edges : Edges
-unfolding good parse flatten readAt ownCounts soundLevels bucketCounts soundBucket countsAt soundAt holders allCounts soundRest holding overflowed moveIn noRoom step count lookup increment check fresh raise run encode crowded atLeast
+unfolding good parse flatten readAt ownCounts soundLevels bucketCounts soundBucket countsAt soundAt holders allCounts soundRest holding overflowed moveIn noRoom step count lookup increment check fresh raise run encode crowded atLeast busy
 edges = record {
   p1 = refl;
   p1-word = refl;
@@ -67,4 +68,7 @@ edges = record {
   limit = refl;
   full = refl;
   flow = refl;
+  busy-exact = refl;
+  busy-short = refl;
+  busy-none = refl;
 }

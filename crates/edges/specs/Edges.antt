@@ -1,4 +1,4 @@
--- The document's edges P1 to P10, together. Shape 3, w1 1, b 6, M 100, J 0 unless said.
+-- The document's edges P1 to P10, together, and those of the busy list. Shape 3, w1 1, b 6, M 100, J 0 unless said.
 use mathlib.Core.Path.{_≡_}
 use mathlib.Core.List.{List, [], _∷_, _++_}
 use Prim.Native.Nat.{ℕ, _+_, _^_, _/_, _%_}
@@ -7,6 +7,7 @@ use Rattle.model.specs.Lists.{tabulate}
 use Rattle.model.specs.Slots.{slot}
 use Rattle.model.specs.Calls.{Outcome, lookup, increment, check, raise}
 use Rattle.model.specs.Runs.{run}
+use Rattle.model.specs.BusyLists.{Listing, busy}
 
 -- a fresh wall with the limit m and j full-size buckets, in n words
 abbrev pub new : ℕ → ℕ → ℕ → List ℕ
@@ -32,9 +33,17 @@ head m t f = 0x06010300014C5742 ∷ m ∷ t ∷ f ∷ []
 abbrev pub filled : ℕ → List ℕ
 filled p = 0x1000000000000000 ∷ 0x111111111111111 ∷ 0x111111111111111 ∷ 0 ∷ p ∷ []
 
+-- all 74 words when flow 15 and then flow 0 have moved, at places 60 and 0
+abbrev pub twoMoved : List ℕ
+twoMoved = head 100 33 (1 + 2 ^ 16) ++ (filled (2 ^ 40) ++ ((1 + 2 ^ 60) ∷ set (set (replicate 64 0) 60 2) 0 3))
+
 -- the number and the value
 abbrev pub said : Outcome → List ℕ
 said r = r .number ∷ r .value ∷ []
+
+-- and every word of the list
+abbrev pub listed : Listing → List ℕ
+listed r = r .number ∷ r .value ∷ r .list
 
 pub record Edges : Type 0 where
   pub p1 : said (raise 3 1 6 100 0 (replicate 9 0)) ≡ 0 ∷ 0 ∷ []
@@ -61,12 +70,14 @@ pub record Edges : Type 0 where
   pub p7-used : getD (run (new 100 1 74) (sixteen ++ (15 ∷ [])) .words) 3 0 ≡ 1 + 2 ^ 16
   pub p8 : said (lookup (run (new 100 1 74) (sixteen ++ (15 ∷ [])) .words) 0) ++ said (increment (run (new 100 1 74) (sixteen ++ (15 ∷ [])) .words) 0)
       ≡ 0 ∷ 2 ∷ 0 ∷ 3 ∷ []
-  -- all 74 words after it: flow 0 has moved, at place 0
-  pub p8-after : increment (run (new 100 1 74) (sixteen ++ (15 ∷ [])) .words) 0 .words
-      ≡ head 100 33 (1 + 2 ^ 16) ++ (filled (2 ^ 40) ++ ((1 + 2 ^ 60) ∷ set (set (replicate 64 0) 60 2) 0 3))
+  pub p8-after : increment (run (new 100 1 74) (sixteen ++ (15 ∷ [])) .words) 0 .words ≡ twoMoved
   pub p9 : run (new 1 0 9) (times 1 1) .number ∷ said (increment (run (new 1 0 9) (times 1 1) .words) 1) ≡ 0 ∷ 10 ∷ 0 ∷ []
   pub p10 : said (increment (run (new 31 0 9) sixteen .words) 15) ≡ 10 ∷ 0 ∷ []
   pub sound : check (run (new 100 1 74) (sixteen ++ (15 ∷ [])) .words) .number ≡ 0
   pub limit : raise 3 1 6 262143 0 (replicate 9 0) .number ∷ raise 3 1 6 262144 0 (replicate 9 0) .number ∷ [] ≡ 0 ∷ 4 ∷ []
   pub full : raise 3 1 6 100 1 (replicate 74 0) .number ∷ raise 3 1 6 100 2 (replicate 139 0) .number ∷ [] ≡ 0 ∷ 5 ∷ []
   pub flow : increment (new 100 0 9) 63 .number ∷ increment (new 100 0 9) 64 .number ∷ [] ≡ 0 ∷ 8 ∷ []
+  -- the busy list of the wall after p8: flow 0 alone counts 3; the words that it needs, one fewer, and a floor above it
+  pub busy-exact : listed (busy twoMoved 3 (7 ∷ 7 ∷ [])) ≡ 0 ∷ 1 ∷ 0 ∷ 3 ∷ []
+  pub busy-short : listed (busy twoMoved 3 (7 ∷ [])) ≡ 14 ∷ 0 ∷ 7 ∷ []
+  pub busy-none : listed (busy twoMoved 4 (7 ∷ [])) ≡ 0 ∷ 0 ∷ 7 ∷ []

@@ -65,19 +65,40 @@ pub fn count_flagged(words: &[u64], v: Wall, i: u64, place: u64, packed: u64) ->
     )
 }
 
-// The count at a place of a bucket that has nothing but marks in its packed word, if it is sound. Its callers show that it has nothing else.
+// The count at a place of a bucket that has nothing but marks in its packed word. `count` shows that it has nothing else, and `read_plain` asks
+// it of its callers.
+fn count_plain(words: &[u64], v: Wall, i: u64, place: u64) -> u64
+    requires { ⌜ Open (now words) v × (i < bucketsIn (headerOf v)) × (bucketAt (parse (now words)) i .packed / 2 ^ 40 ≤ 0) × (place < 64) ⌝ }
+    ensures { λ r. ⌜ r ≡ getD (countsAt (parse (now (words .entry))) i) place 0 ⌝ }
+{
+    plain::count(
+        words,
+        header::bucket_at(v, i),
+        place,
+        v.width,
+        v.shape - 1,
+        shapes::entries_of(v.shape),
+        shapes::widths_of(v.shape),
+    )
+}
+
+// The same, if the bucket is sound. Its callers show that it has nothing else.
 pub fn read_plain(words: &[u64], v: Wall, i: u64, place: u64) -> Judged
     requires { ⌜ Open (now words) v × (i < bucketsIn (headerOf v)) × (bucketAt (parse (now words)) i .packed / 2 ^ 40 ≤ 0) × (place < 64) ⌝ }
     ensures { λ r. ⌜ r ≡ verdict (soundAt (parse (now (words .entry))) i) (getD (countsAt (parse (now (words .entry))) i) place 0) ⌝ }
 {
-    let at = header::bucket_at(v, i);
-    let uppers = v.shape - 1;
-    let e = shapes::entries_of(v.shape);
-    let ws = shapes::widths_of(v.shape);
-    if !plain::judge(words, at, v.width, uppers, e, ws, v.total) {
+    if !plain::judge(
+        words,
+        header::bucket_at(v, i),
+        v.width,
+        v.shape - 1,
+        shapes::entries_of(v.shape),
+        shapes::widths_of(v.shape),
+        v.total,
+    ) {
         return Judged::Unsound;
     }
-    Judged::Sound(plain::count(words, at, place, v.width, uppers, e, ws))
+    Judged::Sound(count_plain(words, v, i, place))
 }
 
 // The count at a place, if the bucket is sound.
@@ -93,6 +114,18 @@ pub fn read(words: &[u64], v: Wall, i: u64, place: u64) -> Judged
         return Judged::Unsound;
     };
     Judged::Sound(count_flagged(words, v, i, place, packed))
+}
+
+// The count at a place of a bucket that its caller found sound: nothing is judged again.
+pub fn count(words: &[u64], v: Wall, i: u64, place: u64) -> u64
+    requires { ⌜ Open (now words) v × (i < bucketsIn (headerOf v)) × T (soundAt (parse (now words)) i) × (place < 64) ⌝ }
+    ensures { λ r. ⌜ r ≡ getD (countsAt (parse (now (words .entry))) i) place 0 ⌝ }
+{
+    let packed = packed_word(words, v, i);
+    if 0 < packed >> 40 {
+        return count_flagged(words, v, i, place, packed);
+    }
+    count_plain(words, v, i, place)
 }
 
 // The sum of its counts, if the bucket is sound.

@@ -14,16 +14,15 @@ use Rattle.model.specs.Lists.{oneIf, byMark, concat}
 use Rattle.model.specs.Shapes.{rowsOf}
 use Rattle.model.specs.Slots.{slot}
 use Rattle.model.specs.Walls.{Header, Wall, bucketsIn, flows, wallSize, bucketWords, fullWords, readHeader, flatten, parse, withTotals, bucketOf, placeOf}
-use Rattle.model.specs.Sound.{flag, bucketAt, fullFor, countsAt, soundAt, count}
+use Rattle.model.specs.Sound.{flag, bucketAt, fullFor, countsAt, count}
 use Rattle.model.specs.Calls.{Clear, Outcome, firstMet, noRoom, overflows, bucketRefusals, stepRefusals, raisedBy, lookup, increment, check}
 use Rattle.model.specs.After.{ownAfter, fullAfter}
-use Rattle.model.proofs.Tests.{every-at}
 use Rattle.model.proofs.Slots.{slot-inj}
 use Rattle.model.proofs.Tools.{by-eq}
 use Rattle.model.proofs.Pieces.{length-cat}
 use Rattle.model.proofs.Headers.{Good, Limits, of-good, bucket-lt}
 use Rattle.model.proofs.Parsing.{Shaped, Coded, coded-of, read-head, head-marked, parse-flatten, offset-fulls, sized-fulls}
-use Rattle.model.proofs.SoundWalls.{SoundWall, check-sound, of-sound}
+use Rattle.model.proofs.SoundWalls.{SoundWall, check-sound, each-sound}
 use Rattle.model.proofs.OwnSteps.{length-countsAt}
 use Rattle.model.proofs.Steps.{Stepped, step-sound}
 use Rattle.model.proofs.Meets.{meets-none}
@@ -200,8 +199,7 @@ increment-raises ws y ok e =
 pub own-clear : (ws : List ℕ) (y : ℕ) → Accepted ws → y < flows (parse ws .header) → Clear (bucketRefusals ws y)
 own-clear ws y ok h =
     let a = check-sound ws .0 ok in
-    meets-none ws y (of-good ws (a .0)) h
-    (every-at (bucketsIn (parse ws .header)) (soundAt (parse ws)) (of-sound (parse ws) (a .1) .0) (bucketOf (parse ws .header) y) (bucket-lt (parse ws .header .bits) y (a .1 .limits .bits-low)))
+    meets-none ws y (of-good ws (a .0)) h (each-sound ws ok (bucketOf (parse ws .header) y) (bucket-lt (parse ws .header .bits) y (a .1 .limits .bits-low)))
 
 pub lookup-count : (ws : List ℕ) (y : ℕ) → Accepted ws → y < flows (parse ws .header) → lookup ws y ≡ record { number = 0; value = count (parse ws) y; words = ws }
 unfolding lookup

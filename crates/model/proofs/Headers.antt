@@ -146,5 +146,8 @@ of-good ws g =
 pub flows-number : (b : ℕ) → 6 ≤ b → 2 ^ b ≡ 2 ^ (b - 6) * 64
 flows-number b h = ap (λ n. 2 ^ n) (omega arith) ∙ pow-add 2 (b - 6) 6
 
+pub slot-bucket : (b s : ℕ) → 6 ≤ b → s < 2 ^ b → s / 64 < 2 ^ (b - 6)
+slot-bucket b s h l = div-lt-iff-lt-mul (lit< tt) .1 (rw (← flows-number b h) l)
+
 pub bucket-lt : (b y : ℕ) → 6 ≤ b → slot b y / 64 < 2 ^ (b - 6)
-bucket-lt b y h = div-lt-iff-lt-mul (lit< tt) .1 (rw (← flows-number b h) (slot-lt b y))
+bucket-lt b y h = slot-bucket b (slot b y) h (slot-lt b y)

@@ -35,3 +35,4 @@ pub mod Written
 pub mod Images
 pub mod Known
 pub mod Uses
+pub mod BusyLists

@@ -16,6 +16,7 @@ use Rattle.model.specs.Levels.{crowded, atLeast}
 use Rattle.model.specs.Runs.{listed, talliesOf, crowdedOf}
 use Rattle.model.proofs.Lists.{Below}
 use Rattle.model.proofs.Crowding.{crowded-mono, holds-mono, Under}
+use Rattle.model.proofs.Sums.{sum-tab-add, sum-tab-zero}
 
 under-tab : (n : ℕ) (f g : ℕ → ℕ) → ((i : ℕ) → f i ≤ g i) → Under (tabulate n f) (tabulate n g)
 under-tab zero f g h = tt
@@ -54,14 +55,6 @@ listed-rev s (x ∷ xs) ys = listed-rev s xs (x ∷ ys) ∙ omega arith
 pub crowdedOf-listed : (k h l : ℕ) (rs : List Row) (xs ys : List ℕ) → ((s : ℕ) → listed s xs ≡ listed s ys) → crowdedOf k h l rs xs ≡ crowdedOf k h l rs ys
 crowdedOf-listed k h l rs xs ys e =
     ap (λ (f : ℕ → ℕ). sum (tabulate h (λ b. oneIf (crowded l rs (tabulate k (λ a. f (b * k + a))))))) (fun-ext {f = λ s. listed s xs} {g = λ s. listed s ys} e)
-
-pub sum-tab-add : (n : ℕ) (f g : ℕ → ℕ) → sum (tabulate n (λ i. f i + g i)) ≡ sum (tabulate n f) + sum (tabulate n g)
-sum-tab-add zero f g = refl
-sum-tab-add (suc n) f g = rw (sum-tab-add n (λ i. f (suc i)) (λ i. g (suc i))) (omega arith)
-
-pub sum-tab-zero : (n : ℕ) → sum (tabulate n (λ i. 0)) ≡ 0
-sum-tab-zero zero = refl
-sum-tab-zero (suc n) = rw (sum-tab-zero n)
 
 sum-tab-one : (n x : ℕ) → x < n → sum (tabulate n (λ s. oneIf (eqb s x))) ≡ 1
 sum-tab-one zero x h = absurd (not-suc-le-zero h)

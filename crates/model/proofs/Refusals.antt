@@ -41,6 +41,15 @@ first-skip (r ∷ rs) ss c = go (r .met) (c .0) (first-skip rs ss (c .1))
     go true t e = absurd t
     go false t e = e
 
+-- one among the first of a list is that of the whole
+pub first-stays : (rs ss : List Refusal) (n : ℕ) → 0 < n → firstMet rs ≡ n → firstMet (rs ++ ss) ≡ n
+first-stays [] ss n h e = absurd (omega arith)
+first-stays (r ∷ rs) ss n h e = go (r .met) e (first-stays rs ss n h)
+  where
+    go : (b : Bool) → choose b (r .number) (firstMet rs) ≡ n → (firstMet rs ≡ n → firstMet (rs ++ ss) ≡ n) → choose b (r .number) (firstMet (rs ++ ss)) ≡ n
+    go true e f = e
+    go false e f = f e
+
 module _ (v : ℕ) (done ws : List ℕ) where
   pub answer-no : (n : ℕ) → outcome n v done ws .number ≡ n
   answer-no zero = refl

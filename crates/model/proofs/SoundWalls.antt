@@ -1,6 +1,6 @@
 -- A sound wall, fact by fact, and that the check says so.
 use mathlib.Core.Logic.{_↔_}
-use mathlib.Core.Path.{_≡_, refl}
+use mathlib.Core.Path.{_≡_, refl, sym, _∙_}
 use mathlib.Core.Bool.{Bool, true, false}
 use mathlib.Core.List.{List, [], _∷_}
 use Prim.Native.Nat.{ℕ, _≤_, _<_}
@@ -9,7 +9,7 @@ use lib.ListN.{getD}
 use Rattle.model.specs.Lists.{oneIf, every, byMark}
 use Rattle.model.specs.Walls.{Wall, bucketsIn, readHeader, good, parse, emptyFull}
 use Rattle.model.specs.Sound.{bucketAt, fullFor, soundAt, holders, allCounts, isEmptyFull, soundBuckets, soundRest}
-use Rattle.model.specs.Calls.{check, checkRefusals}
+use Rattle.model.specs.Calls.{Clear, firstMet, check, checkRefusals}
 use Rattle.model.proofs.Tests.{every-at, every-of}
 use Rattle.model.proofs.Tools.{all-tests, tests-all, not-not, to-not-not}
 use Rattle.model.proofs.Refusals.{clear-first, first-clear}
@@ -72,15 +72,24 @@ pub parse-header : (ws : List ℕ) → parse ws .header ≡ readHeader ws
 unfolding parse
 parse-header ws = refl
 
+pub check-number : (ws : List ℕ) → check ws .number ≡ firstMet (checkRefusals ws)
+unfolding check
+check-number ws = refl
+
+pub check-clear : (ws : List ℕ) → check ws .number ≡ 0 → Clear (checkRefusals ws)
+check-clear ws e = clear-first (checkRefusals ws) (lit< tt, (lit< tt, (lit< tt, tt))) (sym (check-number ws) ∙ e)
+
+pub each-sound : (ws : List ℕ) → check ws .number ≡ 0 → (i : ℕ) → i < bucketsIn (parse ws .header) → T (soundAt (parse ws) i)
+each-sound ws e = every-at (bucketsIn (parse ws .header)) (soundAt (parse ws)) (not-not (soundBuckets (parse ws)) (check-clear ws e .1 .0))
+
 -- the check accepts exactly the words of good header whose wall is sound
 pub check-sound : (ws : List ℕ) → (check ws .number ≡ 0) ↔ (Good ws × SoundWall (parse ws))
-unfolding check
 check-sound ws = (
   (λ e.
-      let c = clear-first (checkRefusals ws) (lit< tt, (lit< tt, (lit< tt, tt))) e in
+      let c = check-clear ws e in
       let g = good-of ws (not-not (good ws) (c .0)) in
       (g, sound-of (parse ws) (shaped-parse ws g) (rw parse-header (g .limits)) (not-not (soundBuckets (parse ws)) (c .1 .0)) (not-not (soundRest (parse ws)) (c .1 .1 .0)))),
   (λ h.
       let t = of-sound (parse ws) (h .1) in
-      first-clear (checkRefusals ws) (to-not-not (good ws) (of-good ws (h .0)), (to-not-not (soundBuckets (parse ws)) (t .0), (to-not-not (soundRest (parse ws)) (t .1), tt)))),
+      check-number ws ∙ first-clear (checkRefusals ws) (to-not-not (good ws) (of-good ws (h .0)), (to-not-not (soundBuckets (parse ws)) (t .0), (to-not-not (soundRest (parse ws)) (t .1), tt)))),
 )

@@ -1,37 +1,27 @@
 -- U is the number of flagged buckets of a sound wall.
 use mathlib.Core.Path.{_≡_, refl, sym, ap, _∙_}
-use Prim.Native.Nat.{ℕ, zero, suc, _+_, _≤_, _<_}
-use native.Mathlib.Nat.{le-of-suc-le-suc, not-suc-le-zero, zero-lt-suc}
+use Prim.Native.Nat.{ℕ, zero, suc, _≤_, _<_}
+use native.Mathlib.Nat.{le-of-suc-le-suc, not-suc-le-zero, zero-lt-suc, mul-one}
 use native.Mathlib.Numerals.{one-add}
-use lib.Dec.{eqb, eqb·zero-suc, eqb·suc-zero, eqb·suc-suc}
+use lib.Dec.{eqb}
 use Rattle.model.specs.Lists.{sum, tabulate, oneIf, byMark}
 use Rattle.model.specs.Walls.{Bucket, Wall, bucketsIn}
 use Rattle.model.specs.Sound.{flag, fullNumber, bucketAt, holdsNumber, holders}
-use Rattle.model.proofs.Order.{sum-tab-add, sum-tab-zero}
-use Rattle.model.proofs.Sums.{tab-ext}
+use Rattle.model.proofs.Sums.{tab-ext, sum-tab-zero, sum-swap, sum-pick}
 use Rattle.model.proofs.Buckets.{flag-le}
 use Rattle.model.proofs.SoundWalls.{SoundWall}
 use Rattle.model.proofs.OwnSteps.{number-lt}
 
-sum-swap : (m n : ℕ) (f : ℕ → ℕ → ℕ) → sum (tabulate m (λ q. sum (tabulate n (f q)))) ≡ sum (tabulate n (λ k. sum (tabulate m (λ q. f q k))))
-sum-swap zero n f = sym (sum-tab-zero n)
-sum-swap (suc m) n f = ap (λ x. sum (tabulate n (f 0)) + x) (sum-swap m n (λ q. f (suc q))) ∙ sym (sum-tab-add n (f 0) (λ k. sum (tabulate m (λ q. f (suc q) k))))
-
 sum-ones : (n : ℕ) → sum (tabulate n (λ q. 1)) ≡ n
 sum-ones zero = refl
 sum-ones (suc n) = rw (sum-ones n) (one-add n)
-
-sum-once : (n x : ℕ) → x < n → sum (tabulate n (λ q. oneIf (eqb x q))) ≡ 1
-sum-once zero x h = absurd (not-suc-le-zero h)
-sum-once (suc n) zero h = simp eqb·zero-suc (ap (λ x. 1 + x) (sum-tab-zero n))
-sum-once (suc n) (suc x) h = simp (eqb·suc-zero, eqb·suc-suc) (rw (sum-once n x (le-of-suc-le-suc h)))
 
 flag-sum : (u : ℕ) (b : Bucket) → (0 < flag b → fullNumber b < u) → sum (tabulate u (λ q. holdsNumber q b)) ≡ flag b
 flag-sum u b f = go (flag b) (flag-le b) f
   where
     go : (m : ℕ) → m ≤ 1 → (0 < m → fullNumber b < u) → sum (tabulate u (λ q. byMark m 0 (oneIf (eqb (fullNumber b) q)))) ≡ m
     go zero l f = sum-tab-zero u
-    go (suc zero) l f = sum-once u (fullNumber b) (f (zero-lt-suc 0))
+    go (suc zero) l f = simp mul-one at (sum-pick u (fullNumber b) (λ q. 1) (f (zero-lt-suc 0)))
     go (suc (suc m)) l f = absurd (not-suc-le-zero (le-of-suc-le-suc l))
 
 pub used-flags : (v : Wall) → SoundWall v → sum (tabulate (bucketsIn (v .header)) (λ k. flag (bucketAt v k))) ≡ v .header .used

@@ -10,3 +10,4 @@ pub mod Need
 pub mod Calls
 pub mod After
 pub mod Runs
+pub mod BusyLists
