@@ -31,25 +31,28 @@ module _ (c : ℕ → ℕ) (floor : ℕ) where
   one-more : (y : ℕ) → busyTo (y + 1) ≡ busyTo y ++ choose (leb floor (c y)) (y ∷ []) []
   one-more y = let e : y + 1 ≡ suc y = omega arith in ap busyTo e ∙ last-of 0 y ∙ ap (λ z. busyTo y ++ choose (leb floor (c z)) (z ∷ []) []) (zero-add y)
 
-  pub with-flow : (y : ℕ) → floor ≤ c y → busyTo (y + 1) ≡ busyTo y ++ y ∷ []
+  with-flow : (y : ℕ) → floor ≤ c y → busyTo (y + 1) ≡ busyTo y ++ y ∷ []
   with-flow y h = one-more y ∙ ap (λ b. busyTo y ++ choose b (y ∷ []) []) (sym (T-true (leb floor (c y)) (le→leb floor (c y) h)))
 
-  pub without : (y : ℕ) → c y < floor → busyTo (y + 1) ≡ busyTo y
+  without : (y : ℕ) → c y < floor → busyTo (y + 1) ≡ busyTo y
   without y h = one-more y ∙ ap (λ b. busyTo y ++ choose b (y ∷ []) []) (sym (T-false (leb floor (c y)) (lt→nleb floor (c y) h))) ∙ append-nil (busyTo y)
 
-  pub longer : (y : ℕ) → floor ≤ c y → length (busyTo (y + 1)) ≡ length (busyTo y) + 1
+  longer : (y : ℕ) → floor ≤ c y → length (busyTo (y + 1)) ≡ length (busyTo y) + 1
   longer y h = ap length (with-flow y h) ∙ length-append (busyTo y) (y ∷ [])
 
-  pub as-long : (y : ℕ) → c y < floor → length (busyTo (y + 1)) ≡ length (busyTo y)
+  as-long : (y : ℕ) → c y < floor → length (busyTo (y + 1)) ≡ length (busyTo y)
   as-long y h = ap length (without y h)
+
+  by-count : (y : ℕ) {P : Type 0} → (c y < floor → P) → (floor ≤ c y → P) → P
+  by-count y {P} a b = go (decLt (c y) floor)
+    where
+      go : Dec (c y < floor) → P
+      go (yes h) = a h
+      go (no h) = b (omega arith)
 
   -- no flow takes more than one entry, and none takes one away
   grows : (y : ℕ) → (length (busyTo y) ≤ length (busyTo (y + 1))) × (length (busyTo (y + 1)) ≤ length (busyTo y) + 1)
-  grows y = go (decLt (c y) floor)
-    where
-      go : Dec (c y < floor) → (length (busyTo y) ≤ length (busyTo (y + 1))) × (length (busyTo (y + 1)) ≤ length (busyTo y) + 1)
-      go (yes h) = (omega (arith, as-long y h), omega (arith, as-long y h))
-      go (no h) = (omega (arith, longer y (omega arith)), omega (arith, longer y (omega arith)))
+  grows y = by-count y (λ h. (omega (arith, as-long y h), omega (arith, as-long y h))) (λ h. (omega (arith, longer y h), omega (arith, longer y h)))
 
   pub at-most : (n : ℕ) → length (busyTo n) ≤ n
   at-most zero = le-refl 0
@@ -71,14 +74,10 @@ module _ (c : ℕ → ℕ) (floor : ℕ) where
   -- where as many are listed as of all n flows, the rest are not to be
   none-after : (y d : ℕ) → length (busyTo (y + d)) ≤ length (busyTo y) → busyTo y ≡ busyTo (y + d)
   none-after y zero h = ap busyTo (sym (add-zero y))
-  none-after y (suc d) h = go (decLt (c (y + d)) floor) (none-after y d (omega (arith, h, grows (y + d) .0, ap (λ m. length (busyTo m)) e)))
-    where
-      e : y + d + 1 ≡ y + suc d
-      e = omega arith
-
-      go : Dec (c (y + d) < floor) → busyTo y ≡ busyTo (y + d) → busyTo y ≡ busyTo (y + suc d)
-      go (yes k) r = r ∙ sym (without (y + d) k) ∙ ap busyTo e
-      go (no k) r = absurd (omega (arith, h, longer (y + d) (omega arith), never-shorter y d, ap (λ m. length (busyTo m)) e))
+  none-after y (suc d) h =
+      let e : y + d + 1 ≡ y + suc d = omega arith in
+      let r = none-after y d (omega (arith, h, grows (y + d) .0, ap (λ m. length (busyTo m)) e)) in
+      by-count (y + d) (λ k. r ∙ sym (without (y + d) k) ∙ ap busyTo e) (λ k. absurd (omega (arith, h, longer (y + d) k, never-shorter y d, ap (λ m. length (busyTo m)) e)))
 
   pub all-listed : (y n : ℕ) → y ≤ n → length (busyTo n) ≤ length (busyTo y) → busyTo y ≡ busyTo n
   all-listed y n l h = let e : y + (n - y) ≡ n = omega arith in none-after y (n - y) (subst (λ m. length (busyTo m) ≤ length (busyTo y)) (sym e) h) ∙ ap busyTo e
@@ -113,23 +112,16 @@ module _ (c : ℕ → ℕ) where
 
 -- ---- a turn of the second pass: what it finds, and what `put` leaves
 
-module _ (c : ℕ → ℕ) (floor y n at r : ℕ) (list us xs : List ℕ) (e : at ≡ 2 * length (busyTo c floor y)) (w : us ≡ written c (busyTo c floor y) list)
+module _ (c : ℕ → ℕ) (floor y at r : ℕ) (list us xs : List ℕ) (e : at ≡ 2 * length (busyTo c floor y)) (w : us ≡ written c (busyTo c floor y) list)
     (f : c y < floor → (r ≡ at) × (xs ≡ us)) (g : floor ≤ c y → (r ≡ at + 2) × (xs ≡ set (set us at y) (at + 1) (c y))) where
-  by-count : {P : Type 0} → (c y < floor → P) → (floor ≤ c y → P) → P
-  by-count {P} a b = go (decLt (c y) floor)
-    where
-      go : Dec (c y < floor) → P
-      go (yes h) = a h
-      go (no h) = b (omega arith)
-
   pub next-at : r ≡ 2 * length (busyTo c floor (y + 1))
-  next-at = by-count (λ h. omega (arith, e, f h .0, as-long c floor y h)) (λ h. omega (arith, e, g h .0, longer c floor y h))
+  next-at = by-count c floor y (λ h. omega (arith, e, f h .0, as-long c floor y h)) (λ h. omega (arith, e, g h .0, longer c floor y h))
 
   pub next-long : length xs ≡ length us
-  next-long = by-count (λ h. ap length (f h .1)) (λ h. ap length (g h .1) ∙ length-set (set us at y) (at + 1) (c y) ∙ length-set us at y)
+  next-long = by-count c floor y (λ h. ap length (f h .1)) (λ h. ap length (g h .1) ∙ length-set (set us at y) (at + 1) (c y) ∙ length-set us at y)
 
-  pub next-written : y < n → 2 * length (busyTo c floor n) ≤ length list → xs ≡ written c (busyTo c floor (y + 1)) list
-  next-written l m = by-count
+  pub next-written : (n : ℕ) → y < n → 2 * length (busyTo c floor n) ≤ length list → xs ≡ written c (busyTo c floor (y + 1)) list
+  next-written n l m = by-count c floor y
       (λ h. f h .1 ∙ w ∙ ap (λ zs. written c zs list) (sym (without c floor y h)))
       (λ h. g h .1 ∙ ap₂ (λ (zs : List ℕ) j. set (set zs j y) (j + 1) (c y)) w e
       ∙ written-more c (busyTo c floor y) list y (room c floor y n list l m h) ∙ ap (λ zs. written c zs list) (sym (with-flow c floor y h)))

@@ -7,14 +7,13 @@ use native.Mathlib.Omega.{arith}
 use lib.Dec.{T, leb, leb→le}
 use lib.ListN.{getD}
 use Rattle.model.specs.Lists.{oneIf, sum, tabulate}
-use Rattle.model.specs.Slots.{slot}
 use Rattle.model.specs.Walls.{Wall, flows}
 use Rattle.model.specs.Sound.{countsAt, count, allCounts}
-use Rattle.model.proofs.Slots.{slot-lt, slot-slot}
-use Rattle.model.proofs.Sums.{tab-ext, tab-getD, sum-moved}
+use Rattle.model.proofs.Sums.{tab-ext, tab-getD}
 use Rattle.model.proofs.Headers.{flows-number}
 use Rattle.model.proofs.SoundWalls.{SoundWall}
 use Rattle.model.proofs.OwnSteps.{length-countsAt}
+use Rattle.model.proofs.BusyLists.{sum-slots}
 
 sum-both : (m n : ℕ) (f : ℕ → ℕ) → sum (tabulate (m + n) f) ≡ sum (tabulate m f) + sum (tabulate n (λ i. f (m + i)))
 sum-both zero n f = ap (λ k. sum (tabulate k f)) (zero-add n) ∙ ap sum (tab-ext n f (λ i. f (0 + i)) (λ i l. ap f (sym (zero-add i)))) ∙ sym (zero-add (sum (tabulate n (λ i. f (0 + i)))))
@@ -48,12 +47,11 @@ floor-times floor (suc n) f = go (leb floor (f 0)) (leb→le floor (f 0)) (sum (
 
 module _ (v : Wall) (s : SoundWall v) where
   all-flows : sum (tabulate (flows (v .header)) (count v)) ≡ v .header .total
-  unfolding count allCounts
+  unfolding allCounts
   all-flows =
       let b : ℕ = v .header .bits in
       let f : ℕ → ℕ = λ s. getD (countsAt v (s / 64)) (s % 64) 0 in
-      let back : (y : ℕ) → y < 2 ^ b → (slot b y < 2 ^ b) × (slot b (slot b y) ≡ y) = λ y l. (slot-lt b y, slot-slot b y l) in
-      sum-moved (2 ^ b) (slot b) (slot b) back back f ∙ ap (λ n. sum (tabulate n f)) (flows-number b (s .limits .bits-low)) ∙ sum-blocks 64 (2 ^ (b - 6)) f
+      sum-slots v (λ n. n) ∙ ap (λ n. sum (tabulate n f)) (flows-number b (s .limits .bits-low)) ∙ sum-blocks 64 (2 ^ (b - 6)) f
       ∙ ap sum (tab-ext (2 ^ (b - 6)) (λ i. sum (tabulate 64 (λ a. f (i * 64 + a)))) (λ i. sum (countsAt v i)) (λ i l. bucket i)) ∙ s .sums
     where
       at : (i a : ℕ) → a < 64 → getD (countsAt v ((i * 64 + a) / 64)) ((i * 64 + a) % 64) 0 ≡ getD (countsAt v i) a 0

@@ -50,7 +50,7 @@ pub record BusyList : Type 0 where
   pub kept : (ws : List ℕ) (floor : ℕ) (list : List ℕ) → busy ws floor list .words ≡ ws
   -- floor 0 lists all N flows; a floor above every count answers 0 and 0 flows and leaves the list
   pub all : (ws : List ℕ) (list : List ℕ) → Accepted ws → 2 * flows (parse ws .header) ≤ length list → (busy ws 0 list .number ≡ 0) × (busy ws 0 list .value ≡ flows (parse ws .header))
-  -- from floor 1 up, as many entries as the total has floors are always enough
+  -- from floor 1 up, room for as many entries as the floor goes into the total is always enough
   pub enough : (ws : List ℕ) (floor : ℕ) (list : List ℕ) → Accepted ws → 1 ≤ floor → 2 * (parse ws .header .total / floor) ≤ length list → busy ws floor list .number ≡ 0
   pub none : (ws : List ℕ) (floor : ℕ) (list : List ℕ) → Accepted ws → ((y : ℕ) → y < flows (parse ws .header) → count (parse ws) y < floor)
       → busy ws floor list ≡ record { number = 0; value = 0; words = ws; list = list }

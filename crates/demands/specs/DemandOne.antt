@@ -13,7 +13,7 @@ use Rattle.model.specs.Slots.{slot}
 use Rattle.model.specs.Walls.{Wall, bucketsIn, readHeader, flatten, parse, fresh}
 use Rattle.model.specs.Sound.{count, soundAt}
 use Rattle.model.specs.Calls.{Refusal, Clear, Reply, Outcome, slotRefusals, slotCall, limitsRefusals, limitsCall, imageRefusals, imageCall, raiseRefusals, asked, raise, closeRefusals, close, bucketRefusals, stepRefusals, raisedBy, lookup, increment, checkRefusals, check}
-use Rattle.model.specs.BusyLists.{busyFlows, written, busyRefusals, ofList, busy}
+use Rattle.model.specs.BusyLists.{Listing, busyFlows, written, busyRefusals, busy}
 
 -- n is given exactly where it is the first number of the list to be met; 0 exactly where none is
 pub record Numbered (rs : List Refusal) (n : ℕ) : Type 0 where
@@ -32,6 +32,10 @@ pub record Answers (rs : List Refusal) (v : ℕ) (us ws : List ℕ) (r : Outcome
   pub value : 0 < r .number → r .value ≡ 0
   pub words : 0 < r .number → r .words ≡ ws
   pub done : r .number ≡ 0 → (r .value ≡ v) × (r .words ≡ us)
+
+-- of a call that is lent a list, the outcome of the list
+abbrev pub ofList : Listing → Outcome
+ofList r = record { number = r .number; value = r .value; words = r .list }
 
 -- bucket i is not sound, and all before it are
 pub record LowestUnsound (v : Wall) (i : ℕ) : Type 0 where

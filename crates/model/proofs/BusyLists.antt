@@ -35,13 +35,17 @@ module _ (c : ℕ → ℕ) (floor : ℕ) where
 pub length-busy : (v : Wall) (floor : ℕ) → length (busyFlows v floor) ≡ sum (tabulate (flows (v .header)) (λ y. oneIf (leb floor (count v y))))
 length-busy v floor = length-from (count v) floor 0 (flows (v .header)) (count v) (λ i. ap (count v) (zero-add i))
 
--- how many flows are listed, counted by slots
-pub busy-slots : (v : Wall) (floor : ℕ) → length (busyFlows v floor) ≡ sum (tabulate (flows (v .header)) (λ s. oneIf (leb floor (getD (countsAt v (s / 64)) (s % 64) 0))))
+-- a sum over the counts of all flows, taken by slots
+pub sum-slots : (v : Wall) (f : ℕ → ℕ) → sum (tabulate (flows (v .header)) (λ y. f (count v y))) ≡ sum (tabulate (flows (v .header)) (λ s. f (getD (countsAt v (s / 64)) (s % 64) 0)))
 unfolding count
-busy-slots v floor =
+sum-slots v f =
     let b : ℕ = v .header .bits in
     let back : (y : ℕ) → y < 2 ^ b → (slot b y < 2 ^ b) × (slot b (slot b y) ≡ y) = λ y l. (slot-lt b y, slot-slot b y l) in
-    length-busy v floor ∙ sum-moved (2 ^ b) (slot b) (slot b) back back (λ s. oneIf (leb floor (getD (countsAt v (s / 64)) (s % 64) 0)))
+    sum-moved (2 ^ b) (slot b) (slot b) back back (λ s. f (getD (countsAt v (s / 64)) (s % 64) 0))
+
+-- how many flows are listed, counted by slots
+pub busy-slots : (v : Wall) (floor : ℕ) → length (busyFlows v floor) ≡ sum (tabulate (flows (v .header)) (λ s. oneIf (leb floor (getD (countsAt v (s / 64)) (s % 64) 0))))
+busy-slots v floor = length-busy v floor ∙ sum-slots v (λ n. oneIf (leb floor n))
 
 pub length-entries : (c : ℕ → ℕ) (ys : List ℕ) → length (entries c ys) ≡ 2 * length ys
 length-entries c [] = refl

@@ -41,10 +41,6 @@ pub record Listing : Type 0 where
 abbrev pub listing : List ℕ → Outcome → Listing
 listing ws o = record { number = o .number; value = o .value; words = ws; list = o .words }
 
--- the outcome of the list
-abbrev pub ofList : Listing → Outcome
-ofList r = record { number = r .number; value = r .value; words = r .list }
-
 -- the value is how many flows are listed; the wall is only read
 unfoldable pub busy : List ℕ → ℕ → List ℕ → Listing
 busy ws floor list =

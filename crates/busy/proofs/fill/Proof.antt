@@ -69,9 +69,9 @@ loop-again c =
     let high : s .args .floor ≤ f y → (p .result ≡ l .at + 2) × (p .last .0 ≡ set (set (l .list) (l .at) y) (l .at + 1) (f y)) =
     λ h. let z = p .ensures .1 (subst (λ m. s .args .floor ≤ m) (sym q) h) in (z .0, z .1 ∙ ap (set (set (l .list) (l .at) y) (l .at + 1)) q) in (
       omega arith,
-      next-at f (s .args .floor) y (flows (parse ws .header)) (l .at) (p .result) (s .args .list .now) (l .list) (p .last .0) (l .inv .1) (l .inv .2) low high,
-      next-written f (s .args .floor) y (flows (parse ws .header)) (l .at) (p .result) (s .args .list .now) (l .list) (p .last .0) (l .inv .1) (l .inv .2) low high h (omega (arith, s .pre .2, s .pre .3)),
-      next-long f (s .args .floor) y (flows (parse ws .header)) (l .at) (p .result) (s .args .list .now) (l .list) (p .last .0) (l .inv .1) (l .inv .2) low high ∙ l .inv .3,
+      next-at f (s .args .floor) y (l .at) (p .result) (s .args .list .now) (l .list) (p .last .0) (l .inv .1) (l .inv .2) low high,
+      next-written f (s .args .floor) y (l .at) (p .result) (s .args .list .now) (l .list) (p .last .0) (l .inv .1) (l .inv .2) low high (flows (parse ws .header)) h (omega (arith, s .pre .2, s .pre .3)),
+      next-long f (s .args .floor) y (l .at) (p .result) (s .args .list .now) (l .list) (p .last .0) (l .inv .1) (l .inv .2) low high ∙ l .inv .3,
       l .inv .4,
     )
 

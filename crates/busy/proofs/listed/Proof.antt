@@ -7,7 +7,7 @@ use mathlib.Core.List.{List}
 use Prim.Native.Nat.{ℕ, _+_, _-_, _/_, _%_, _≤_, _<_}
 use lib.Dec.{leb, lit<, le→leb}
 use lib.Arith.{lt→nleb}
-use lib.ListN.{length, getD}
+use lib.ListN.{getD}
 use lib.Pow.{pow-mono}
 use Rattle.model.specs.Lists.{oneIf, sum, tabulate}
 use Rattle.model.specs.Walls.{bucketsIn, flows, parse}
