@@ -6,7 +6,7 @@
 #include <stdlib.h>
 #include <string.h>
 
-enum { NUMBERS = WALL_LIST_SHORT + 1 };
+enum { NUMBERS = WALL_BAD_SPREAD + 1 };
 
 static unsigned long answered[NUMBERS];
 
@@ -31,10 +31,10 @@ void agree_words(const pair *both)
         }
 }
 
-void agree_raise(pair *both, uint64_t shape, uint64_t width, uint64_t bits, uint64_t limit, uint64_t full)
+void agree_raise(pair *both, uint64_t shape, uint64_t width, uint64_t bits, uint64_t limit, uint64_t full, uint64_t spread)
 {
-    same("raise", shape, wall_raise(both->proved, both->length, shape, width, bits, limit, full),
-         plain_raise(both->plain, both->length, shape, width, bits, limit, full));
+    same("raise", shape, wall_raise(both->proved, both->length, shape, width, bits, limit, full, spread),
+         plain_raise(both->plain, both->length, shape, width, bits, limit, full, spread));
     agree_words(both);
 }
 
@@ -126,21 +126,21 @@ void build_case(unsigned shape, wall_kind kind, const char *path)
     generator from = seeded();
     bench_case made = fresh_case(shape, kind), other = fresh_case(shape, kind);
     pair both = {made.length, made.words, other.words};
-    agree_raise(&both, shape, WIDTH, BITS, case_limit(shape), FULL);
+    agree_raise(&both, shape, WIDTH, BITS, case_limit(shape), FULL, case_spread(kind));
     wanted_counts(shape, kind, &from, made.counts);
     play(&both, made.counts, &from);
     agree_words(&both);
     for (uint64_t flow = 0; flow < FLOWS; flow++)
         if (agree_lookup(&both, flow) != made.counts[flow])
             abort();
-    if (agree_check(&both) != WALL_DONE || made.words[3] >> 16 != (kind == FLAGGED ? BUCKETS / 16 : 0))
+    if (agree_check(&both) != WALL_DONE || WALL_IN_USE(made.words) != (kind == FLAGGED ? BUCKETS / 16 : 0))
         abort();
     agree_lists(&both);
     draw_calls(&made, &from);
     write_case(&made, path);
-    uint64_t increments = made.words[2], used = made.words[3] >> 16;
+    uint64_t increments = WALL_TOTAL(made.words), used = WALL_IN_USE(made.words);
     rehearse(&both, &made, kind);
-    printf("- Shape %u, %s%s: %" PRIu64 " increments, ", shape, wall_names[kind], kind == HALF ? " full" : "", increments);
+    printf("- Shape %u, %s: %" PRIu64 " increments, ", shape, wall_titles[kind], increments);
     printf("%" PRIu64 " full-size buckets in use: the same answers and the same words.\n", used);
 }
 
@@ -169,9 +169,10 @@ static void agree_on_one(pair *both, generator *from)
 {
     uint64_t shape = about(from, 3, 5), width = drawn(from) % 4 == 0 ? about(from, 8, 16) : about(from, 0, 6);
     uint64_t bits = about(from, 6, 7), full = about(from, 0, 2);
+    uint64_t spread = drawn(from) % 2 == 0 ? 0 : about(from, 0, 63) | (drawn(from) % 16 != 0);
     uint64_t words = 4 + (bits == 7 ? 2 : 1) * ((width == 0 ? 7 : width) + shape + 1) + 65 * full;
     both->length = words <= 1024 ? words : 74;
-    agree_raise(both, shape, width, bits, about(from, 1, 4000), full);
+    agree_raise(both, shape, width, bits, about(from, 1, 4000), full, spread);
     for (unsigned turn = 0; turn < 3; turn++) {
         uint64_t mask = drawn(from) & 127;
         for (unsigned call = 0; call < 600; call++)

@@ -31,7 +31,7 @@ int main(int argc, char **argv)
     else if (argc == 3 && !strcmp(argv[1], "bits"))
         print_bits(argv[2]);
     else {
-        fputs("usage: bench build SHAPE light|half|flagged|young FILE | agree | calls KIND FILE | time FILE | bits FILE\n", stderr);
+        fputs("usage: bench build SHAPE light|half|flagged|young|spread FILE | agree | calls KIND FILE | time FILE | bits FILE\n", stderr);
         return 1;
     }
     return 0;

@@ -33,6 +33,11 @@ static bool known_full(uint64_t bits, uint64_t full)
     return full <= MAX_FULL && full <= (uint64_t)1 << (bits - 6);
 }
 
+static bool known_spread(uint64_t bits, uint64_t spread)
+{
+    return spread == 0 || (spread % 2 == 1 && spread >> bits == 0);
+}
+
 static uint64_t length_of(uint64_t shape, uint64_t width, uint64_t bits, uint64_t full)
 {
     return HEAD_WORDS + ((uint64_t)1 << (bits - 6)) * (width + shape + 1) + FULL_WORDS * full;
@@ -40,7 +45,7 @@ static uint64_t length_of(uint64_t shape, uint64_t width, uint64_t bits, uint64_
 
 PLAIN_INLINE bool open_wall(const uint64_t *words, size_t length, plain_wall *wall)
 {
-    if (length < HEAD_WORDS || (words[0] & HEAD_BITS) != HEAD_MARK || words[3] >> 32)
+    if (length < HEAD_WORDS || (words[0] & HEAD_BITS) != HEAD_MARK)
         return false;
     wall->shape = words[0] >> 40 & 0xff;
     wall->width = words[0] >> 48 & 0xff;
@@ -48,12 +53,13 @@ PLAIN_INLINE bool open_wall(const uint64_t *words, size_t length, plain_wall *wa
     wall->limit = words[1];
     wall->total = words[2];
     wall->full = words[3] & 0xffff;
-    wall->used = words[3] >> 16;
+    wall->used = WALL_IN_USE(words);
+    wall->spread = WALL_SPREAD(words);
     if (!known_shape(wall->shape) || wall->width == 0 || wall->width > MAX_WIDTH || !known_bits(wall->bits))
         return false;
     wall->bucket_words = wall->width + wall->shape + 1;
     wall->before_full = HEAD_WORDS + (wall->bucket_words << (wall->bits - MIN_BITS));
-    return known_limit(wall->shape, wall->width, wall->limit) && known_full(wall->bits, wall->full) &&
+    return known_limit(wall->shape, wall->width, wall->limit) && known_full(wall->bits, wall->full) && known_spread(wall->bits, wall->spread) &&
            length == wall->before_full + FULL_WORDS * wall->full && wall->total <= wall->limit && wall->used <= wall->full;
 }
 
@@ -67,8 +73,10 @@ PLAIN_INLINE size_t full_start(const plain_wall *wall, uint64_t number)
     return wall->before_full + number * FULL_WORDS;
 }
 
-PLAIN_INLINE uint64_t slot_of(unsigned bits, uint64_t flow)
+PLAIN_INLINE uint64_t slot_of(unsigned bits, uint64_t spread, uint64_t flow)
 {
+    if (spread != 0)
+        return flow * spread & plain_ones_below(bits);
     uint32_t x = (uint32_t)flow;
     x = (x & 0x55555555) << 1 | (x >> 1 & 0x55555555);
     x = (x & 0x33333333) << 2 | (x >> 2 & 0x33333333);
@@ -76,12 +84,12 @@ PLAIN_INLINE uint64_t slot_of(unsigned bits, uint64_t flow)
     return __builtin_bswap32(x) >> (32 - bits);
 }
 
-uint64_t plain_slot(unsigned bits, uint64_t flow)
+uint64_t plain_slot(unsigned bits, uint64_t spread, uint64_t flow)
 {
-    return slot_of(bits, flow);
+    return slot_of(bits, spread, flow);
 }
 
-wall_answer plain_raise(uint64_t *words, size_t length, uint64_t shape, uint64_t width, uint64_t bits, uint64_t limit, uint64_t full)
+wall_answer plain_raise(uint64_t *words, size_t length, uint64_t shape, uint64_t width, uint64_t bits, uint64_t limit, uint64_t full, uint64_t spread)
 {
     if (width == 0)
         width = DEFAULT_WIDTH;
@@ -95,12 +103,14 @@ wall_answer plain_raise(uint64_t *words, size_t length, uint64_t shape, uint64_t
         return answer(WALL_BAD_LIMIT, 0);
     if (!known_full(bits, full))
         return answer(WALL_BAD_FULL, 0);
+    if (!known_spread(bits, spread))
+        return answer(WALL_BAD_SPREAD, 0);
     if (length != length_of(shape, width, bits, full))
         return answer(WALL_BAD_LENGTH, 0);
     memset(words, 0, length * sizeof *words);
     words[0] = HEAD_MARK | shape << 40 | width << 48 | bits << 56;
     words[1] = limit;
-    words[3] = full;
+    words[3] = full | spread << 32;
     return answer(WALL_DONE, 0);
 }
 
@@ -130,7 +140,7 @@ PLAIN_INLINE uint64_t judge(const uint64_t *words, size_t length, uint64_t flow,
         return WALL_BAD_HEADER;
     if (flow >> wall->bits)
         return WALL_NO_FLOW;
-    *slot = slot_of(wall->bits, flow);
+    *slot = slot_of(wall->bits, wall->spread, flow);
     return sum_of(wall, words, words + bucket_start(wall, *slot / PLACES), false) == PLAIN_UNSOUND ? WALL_UNSOUND : WALL_DONE;
 }
 
@@ -273,7 +283,7 @@ wall_answer plain_busy(const uint64_t *words, size_t length, uint64_t floor, uin
         return answer(WALL_LIST_SHORT, 0);
     const uint64_t *end = list + 2 * listed;
     for (uint64_t flow = 0; list < end; flow++) {
-        uint64_t count = count_at(&wall, words, slot_of(wall.bits, flow));
+        uint64_t count = count_at(&wall, words, slot_of(wall.bits, wall.spread, flow));
         if (count >= floor) {
             *list++ = flow;
             *list++ = count;
@@ -289,6 +299,6 @@ wall_answer plain_close(uint64_t *words, size_t length)
         return answer(WALL_BAD_HEADER, 0);
     memset(words + HEAD_WORDS, 0, (length - HEAD_WORDS) * sizeof *words);
     words[2] = 0;
-    words[3] = wall.full;
+    words[3] = wall.full | wall.spread << 32;
     return answer(WALL_DONE, 0);
 }

@@ -33,7 +33,7 @@ extern const plain_level plain_levels[3][MAX_LEVELS - 1];
 /* What a header says, and the words before the full-size buckets. */
 typedef struct {
     unsigned shape, width, bits;
-    uint64_t limit, total, full, used;
+    uint64_t limit, total, full, used, spread;
     uint64_t bucket_words, before_full;
 } plain_wall;
 

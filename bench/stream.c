@@ -20,7 +20,8 @@ uint64_t drawn(generator *from)
     return from->state = x;
 }
 
-const char *const wall_names[WALLS] = {"light", "half", "flagged", "young"};
+const char *const wall_names[WALLS] = {"light", "half", "flagged", "young", "spread"};
+const char *const wall_titles[WALLS] = {"light", "half full", "flagged", "young", "half full, spread 40503"};
 
 wall_kind wall_named(const char *name)
 {
@@ -39,6 +40,11 @@ size_t case_length(unsigned shape)
 uint64_t case_limit(unsigned shape)
 {
     return ((uint64_t)1 << (WIDTH + (shape == 3 ? 17 : 18))) - 1;
+}
+
+uint64_t case_spread(wall_kind kind)
+{
+    return kind == SPREAD ? 40503 : 0;
 }
 
 static uint64_t *fresh_words(size_t length)
@@ -141,24 +147,27 @@ static void shuffled(unsigned places[64], generator *from)
 
 void wanted_counts(unsigned shape, wall_kind kind, generator *from, uint64_t counts[FLOWS])
 {
+    static uint64_t flow_at[FLOWS]; /* by slot */
     unsigned places[64];
+    for (uint64_t flow = 0; flow < FLOWS; flow++)
+        flow_at[plain_slot(BITS, case_spread(kind), flow)] = flow;
     for (unsigned bucket = 0; bucket < BUCKETS; bucket++) {
         shuffled(places, from);
         for (unsigned turn = 0; turn < 64; turn++)
-            counts[plain_slot(BITS, bucket * 64 + places[turn])] = wanted_count(shape, bucket, kind, turn, from);
+            counts[flow_at[bucket * 64 + places[turn]]] = wanted_count(shape, bucket, kind, turn, from);
     }
 }
 
 static bool in_flagged_bucket(const bench_case *made, uint64_t flow)
 {
     unsigned shape = made->words[0] >> 40 & 0xff;
-    uint64_t bucket = plain_slot(BITS, flow) / 64;
+    uint64_t bucket = plain_slot(BITS, WALL_SPREAD(made->words), flow) / 64;
     return made->words[4 + bucket * (WIDTH + shape + 1) + WIDTH + shape] >> FLAG_BIT & 1;
 }
 
 void draw_calls(bench_case *made, generator *from)
 {
-    bool flagged = made->words[3] >> 16 != 0;
+    bool flagged = WALL_IN_USE(made->words) != 0;
     for (unsigned call = 0; call < made->calls;) {
         uint64_t flow = drawn(from) % FLOWS;
         if (flagged ? in_flagged_bucket(made, flow) : made->counts[flow] != 0)

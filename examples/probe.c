@@ -9,7 +9,7 @@
 #include <inttypes.h>
 #include <stdio.h>
 
-enum { SHAPE = 3, WIDTH = 4, BITS = 16, FULL = 8, LENGTH = WALL_WORDS(SHAPE, WIDTH, BITS, FULL), FLOWS = 1 << BITS, PACKETS = 1000000 };
+enum { SHAPE = 3, WIDTH = 4, BITS = 16, FULL = 8, SPREAD = 0, LENGTH = WALL_WORDS(SHAPE, WIDTH, BITS, FULL), FLOWS = 1 << BITS, PACKETS = 1000000 };
 
 static uint64_t words[LENGTH], plain[FLOWS];
 static uint64_t flow_of[FLOWS]; /* by rank */
@@ -40,7 +40,7 @@ int main(void)
         flow_of[rank] = flow_of[other], flow_of[other] = rank;
         shares[rank] = (rank > 0 ? shares[rank - 1] : 0) + 1.0 / (double)(rank + 1);
     }
-    if (wall_raise(words, LENGTH, SHAPE, WIDTH, BITS, WALL_MAX_LIMIT(SHAPE, WIDTH), FULL).number != WALL_DONE)
+    if (wall_raise(words, LENGTH, SHAPE, WIDTH, BITS, WALL_MAX_LIMIT(SHAPE, WIDTH), FULL, SPREAD).number != WALL_DONE)
         return 2;
     for (uint64_t packet = 0; packet < PACKETS; packet++) {
         uint64_t flow = next_flow();

@@ -37,14 +37,15 @@ enum {
     WALL_BAD_FULL = 5,      /* more full-size buckets than buckets, or than 4,096 */
     WALL_NO_WORD = 6,       /* wall_image: the word is not in the image */
     WALL_BAD_LENGTH = 6,    /* wall_raise: the length is not exact */
-    WALL_BAD_HEADER = 7,    /* the words are no wall: too few or too many, or a header that is not good */
+    WALL_BAD_HEADER = 7,    /* the words are no wall: too few or too many, or a header that is not good, a bad spread in it too */
     WALL_NO_FLOW = 8,       /* the flow is not below 2^bits */
     WALL_UNSOUND = 9,       /* the flow's bucket, or with wall_check and wall_busy some bucket, is not sound */
     WALL_AT_LIMIT = 10,     /* the total stands at its limit */
     /* 11 is never given */
     WALL_NO_FULL = 12,      /* the bucket must overflow, and all full-size buckets are in use */
     WALL_UNSOUND_WALL = 13, /* every bucket is sound, the wall is not */
-    WALL_LIST_SHORT = 14    /* wall_busy: the flows to list need more words than the list has */
+    WALL_LIST_SHORT = 14,   /* wall_busy: the flows to list need more words than the list has */
+    WALL_BAD_SPREAD = 15    /* the spread is even and not 0, or not below 2^bits */
 };
 
 /* The limits on what a wall is raised with, both ends included; WALL_STACK, as said above. */
@@ -71,9 +72,10 @@ enum {
 #define WALL_WORDS(shape, width, bits, full) (4 + WALL_BUCKETS(bits) * ((uint64_t)(width) + (uint64_t)(shape) + 1) + 65 * (uint64_t)(full))
 #define WALL_MAX_LIMIT(shape, width) (((uint64_t)1 << ((width) + ((shape) == 3 ? 17 : 18))) - 1)
 
-/* Of the words of a wall with a good header: the total of accepted increments, and how many full-size buckets are in use. */
+/* Of the words of a wall with a good header: the total of accepted increments, how many full-size buckets are in use, and the spread. */
 #define WALL_TOTAL(words) ((words)[2] + 0)
 #define WALL_IN_USE(words) ((words)[3] >> 16 & 0xFFFF)
+#define WALL_SPREAD(words) ((words)[3] >> 32)
 
 typedef struct {
     uint64_t number;
@@ -81,12 +83,14 @@ typedef struct {
 } wall_answer;
 
 /*
- * The slot of a flow in a wall of 2^bits flows: the flow with its `bits` bits in reverse order. The slot's bucket is value / 64, its place there
- * value % 64. The slot of a slot is the flow again.
+ * The slot of a flow in a wall of 2^bits flows with this spread: with spread 0 the flow with its `bits` bits in reverse order, with an odd spread below
+ * 2^bits flow * spread mod 2^bits, so that spread 1 leaves the flow where it is. No other spread is good. The slot's bucket is value / 64, its place
+ * there value % 64. Every slot is that of exactly one flow. With spread 0 the slot of a slot is the flow again; with an odd one it need not be: the
+ * flow then comes back by the odd spread below 2^bits whose product with this one is 1 mod 2^bits.
  *
- * Answers WALL_DONE and the slot, WALL_BAD_BITS or WALL_NO_FLOW.
+ * Answers WALL_DONE and the slot, or WALL_BAD_BITS, WALL_BAD_SPREAD or WALL_NO_FLOW.
  */
-wall_answer wall_slot(uint64_t bits, uint64_t flow);
+wall_answer wall_slot(uint64_t bits, uint64_t spread, uint64_t flow);
 
 /*
  * L, the bits of a counter of this shape whose first level is `width` bits wide: a count goes up to 2^L - 1. L is width + 17 for shape 3, and
@@ -115,11 +119,12 @@ wall_answer wall_image(const uint8_t *bytes, size_t length, uint64_t n);
 /*
  * A fresh wall in the words: every word is written, whatever stood there. Width 0 asks for the default: it is read, and stored, as 7. There are exactly
  * WALL_WORDS(shape, width, bits, full) words, with this width. `limit` is the largest total of all flows together, from 1 to 2^L - 1 (L as in
- * wall_limits); `full` is how many full-size buckets the wall has, at most 2^(bits - 6) and at most 4,096.
+ * wall_limits); `full` is how many full-size buckets the wall has, at most 2^(bits - 6) and at most 4,096. `spread` says where the wall's flows stand, as
+ * in wall_slot: 0, or odd and below 2^bits; docs/WALL.md says how a site chooses it.
  *
- * Answers WALL_DONE and 0, or WALL_BAD_SHAPE, WALL_BAD_WIDTH, WALL_BAD_BITS, WALL_BAD_LIMIT, WALL_BAD_FULL or WALL_BAD_LENGTH.
+ * Answers WALL_DONE and 0, or WALL_BAD_SHAPE, WALL_BAD_WIDTH, WALL_BAD_BITS, WALL_BAD_LIMIT, WALL_BAD_FULL, WALL_BAD_SPREAD or WALL_BAD_LENGTH.
  */
-wall_answer wall_raise(uint64_t *words, size_t length, uint64_t shape, uint64_t width, uint64_t bits, uint64_t limit, uint64_t full);
+wall_answer wall_raise(uint64_t *words, size_t length, uint64_t shape, uint64_t width, uint64_t bits, uint64_t limit, uint64_t full, uint64_t spread);
 
 /*
  * The count of a flow. Its own bucket alone is judged.
@@ -154,7 +159,7 @@ wall_answer wall_check(const uint64_t *words, size_t length);
 wall_answer wall_busy(const uint64_t *words, size_t length, uint64_t floor, uint64_t *list, size_t list_length);
 
 /*
- * The interval ends: the fresh wall of the same shape, width, bits, limit and full-size buckets. The header alone has to be good.
+ * The interval ends: the fresh wall of the same shape, width, bits, limit, full-size buckets and spread. The header alone has to be good.
  *
  * Answers WALL_DONE and 0, or WALL_BAD_HEADER.
  */

@@ -15,19 +15,19 @@ impl Reply {
 }
 
 extern "C" {
-    fn wall_raise(words: *mut u64, length: usize, shape: u64, width: u64, bits: u64, limit: u64, full: u64) -> Reply;
+    fn wall_raise(words: *mut u64, length: usize, shape: u64, width: u64, bits: u64, limit: u64, full: u64, spread: u64) -> Reply;
     fn wall_lookup(words: *const u64, length: usize, flow: u64) -> Reply;
     fn wall_increment(words: *mut u64, length: usize, flow: u64) -> Reply;
     fn wall_check(words: *const u64, length: usize) -> Reply;
     fn wall_busy(words: *const u64, length: usize, floor: u64, list: *mut u64, list_length: usize) -> Reply;
     fn wall_close(words: *mut u64, length: usize) -> Reply;
-    fn wall_slot(bits: u64, flow: u64) -> Reply;
+    fn wall_slot(bits: u64, spread: u64, flow: u64) -> Reply;
     fn wall_limits(shape: u64, width: u64) -> Reply;
     fn wall_image(bytes: *const u8, length: usize, n: u64) -> Reply;
 }
 
-pub fn raise(words: &mut [u64], shape: u64, width: u64, bits: u64, limit: u64, full: u64) -> Answer {
-    unsafe { wall_raise(words.as_mut_ptr(), words.len(), shape, width, bits, limit, full).answer() }
+pub fn raise(words: &mut [u64], shape: u64, width: u64, bits: u64, limit: u64, full: u64, spread: u64) -> Answer {
+    unsafe { wall_raise(words.as_mut_ptr(), words.len(), shape, width, bits, limit, full, spread).answer() }
 }
 
 pub fn lookup(words: &[u64], flow: u64) -> Answer {
@@ -55,8 +55,8 @@ pub fn close(words: &mut [u64]) -> Answer {
     unsafe { wall_close(words.as_mut_ptr(), words.len()).answer() }
 }
 
-pub fn slot(bits: u64, flow: u64) -> Answer {
-    unsafe { wall_slot(bits, flow).answer() }
+pub fn slot(bits: u64, spread: u64, flow: u64) -> Answer {
+    unsafe { wall_slot(bits, spread, flow).answer() }
 }
 
 pub fn limits(shape: u64, width: u64) -> Answer {

@@ -1,6 +1,7 @@
 //! Corners of the largest sizes: the last full-size number, the last of 4,096 full-size buckets to be taken, the last bucket at every b. No wall
 //! here is random, and each ends right before the unreadable page. Each answer is stated, and so is every word after an increment.
 
+use crate::met;
 use crate::store::PLACES;
 use crate::walls::{Plan, Wall};
 use crate::{Call, Run};
@@ -11,6 +12,11 @@ const LAST: usize = MOST - 1;
 
 /// The last place: its full-size count is the last word of a full-size bucket.
 const END: usize = PLACES - 1;
+
+/// The spreads that cases take in turn, the largest among them.
+fn spread(turn: u64, bits: u64) -> u64 {
+    [0, (1 << bits) - 1, 0x9e3779b1 % (1 << bits)][turn as usize % 3]
+}
 
 /// The bucket that holds a full-size number. Numbers and buckets rise in different orders.
 fn holder(plan: &Plan, number: usize) -> usize {
@@ -44,7 +50,7 @@ fn with(words: &[u64], at: usize, word: u64) -> Vec<u64> {
 }
 
 fn with_used(words: &[u64], used: usize) -> Vec<u64> {
-    with(words, 3, words[3] & 0xffff | (used as u64) << 16)
+    with(words, 3, words[3] & !(0xffff << 16) | (used as u64) << 16)
 }
 
 /// The flag and a number in a bucket's packed word.
@@ -64,7 +70,7 @@ fn with_moved(plan: &Plan, words: &[u64], number: usize, place: usize, count: u6
 
 /// What an increment leaves that makes a brimful bucket overflow at this place.
 fn overflowed(plan: &Plan, words: &[u64], bucket: usize, place: usize) -> Vec<u64> {
-    let number = words[3] as usize >> 16;
+    let number = met::used(words) as usize;
     let flagged = with_used(&with_number(plan, words, bucket, number), number + 1);
     with_moved(plan, &flagged, number, place, plan.start(2))
 }
@@ -101,7 +107,7 @@ fn counts_on(run: &mut Run, plan: &Plan, words: &[u64], bucket: usize, number: u
 pub const SHAPES_AND_WIDTHS: u64 = 9;
 
 fn largest(case: u64, bits: u64) -> Plan {
-    Plan::new(3 + case % 3, [1, 7, 16][case as usize / 3], bits, MOST)
+    Plan::new(3 + case % 3, [1, 7, 16][case as usize / 3], bits, MOST).spread(spread(case + case / 3, bits))
 }
 
 /// b 18 and J 4,096, every bucket flagged.
@@ -226,8 +232,9 @@ const MOST_BITS: u64 = 22;
 /// The last bucket, without full-size buckets and with one.
 pub fn ends(run: &mut Run, case: u64) {
     run.pens.at_end = true;
+    let bits = 6 + case / 3;
     for full in [0, 1] {
-        let plan = Plan::new(3 + case % 3, 1, 6 + case / 3, full);
+        let plan = Plan::new(3 + case % 3, 1, bits, full).spread(spread(case + case / 3, bits));
         last_overflow(run, &plan);
         if full == 0 || plan.bits < MANY_BITS {
             last_flow(run, &plan);
@@ -239,7 +246,7 @@ pub fn ends(run: &mut Run, case: u64) {
 /// A wall whose last bucket has these counts, the others none.
 fn last_alone(plan: &Plan, counts: &[u64]) -> Vec<u64> {
     let mut words = vec![0; plan.length()];
-    words[..4].copy_from_slice(&[plan.first_word(), plan.top(), counts.iter().sum(), plan.full as u64]);
+    words[..4].copy_from_slice(&[plan.first_word(), plan.top(), counts.iter().sum(), plan.fourth_word(0)]);
     let at = plan.bucket_at(plan.buckets() - 1);
     words[at..at + plan.stride()].copy_from_slice(&plan.encode(counts, false, 0));
     words
@@ -249,41 +256,45 @@ fn fresh(plan: &Plan) -> Vec<u64> {
     last_alone(plan, &[0; PLACES])
 }
 
-/// A wall with one count, the last flow's.
+/// The flow of the last slot.
+fn last(plan: &Plan) -> u64 {
+    plan.flow(plan.buckets() - 1, END)
+}
+
+/// A wall with one count, the last slot's.
 fn last_once(plan: &Plan, count: u64) -> Vec<u64> {
     let mut counts = vec![0; PLACES];
     counts[END] = count;
     last_alone(plan, &counts)
 }
 
-/// The last flow once from a fresh wall, which sets the last bit of A1. Then the total one too low and one too high.
+/// The last slot's flow once from a fresh wall, which sets the last bit of A1. Then the total one too low and one too high.
 fn last_flow(run: &mut Run, plan: &Plan) {
     let once = last_once(plan, 1);
     run.load_random(plan.length());
-    run.answers(Call::Raise { shape: plan.shape, width: plan.width, bits: plan.bits, limit: plan.top(), full: plan.full as u64 }, (0, 0));
-    run.leaves(Call::Increment { flow: plan.flows() - 1 }, (0, 1), &once);
+    run.answers(plan.raise(plan.top()), (0, 0));
+    run.leaves(Call::Increment { flow: last(plan) }, (0, 1), &once);
     run.answers(Call::Check, (0, 0));
     lists_last(run, plan);
     unsound_at(run, plan, &with(&once, 2, 0), plan.buckets() - 1);
     unsound(run, &with(&once, 2, 2));
 }
 
-/// Busy on a wall with one count, the last flow's: that flow alone, and all flows. With many bits only the most flows, in one shape.
+/// Busy on a wall with one count, the last slot's: its flow alone, and all flows. With many bits only the most flows, at 0 and at the largest spread.
 fn lists_last(run: &mut Run, plan: &Plan) {
-    let flows = plan.flows();
-    if plan.bits < MANY_BITS || plan.bits == MOST_BITS && plan.shape == 3 {
-        let all: Vec<u64> = (0..flows).flat_map(|flow| [flow, (flow == flows - 1) as u64]).collect();
+    let (flows, last) = (plan.flows(), last(plan));
+    if plan.bits < MANY_BITS || plan.bits == MOST_BITS && [0, flows - 1].contains(&plan.spread) {
+        let all: Vec<u64> = (0..flows).flat_map(|flow| [flow, (flow == last) as u64]).collect();
         run.busy(0, all.len(), Ok(all));
     }
     if plan.bits < MANY_BITS {
-        run.busy(1, 2, Ok(vec![flows - 1, 1]));
+        run.busy(1, 2, Ok(vec![last, 1]));
     }
 }
 
-/// The last bucket about to overflow: its last flow is refused, or takes the last word of the wall. Then that word too low.
+/// The last bucket about to overflow: the last slot's flow is refused, or takes the last word of the wall. Then that word too low.
 fn last_overflow(run: &mut Run, plan: &Plan) {
-    let last = plan.buckets() - 1;
-    let flow = plan.flows() - 1;
+    let (bucket, flow) = (plan.buckets() - 1, last(plan));
     let fresh = fresh(plan);
     let sound = last_alone(plan, &brimful(plan));
     run.load(&sound);
@@ -292,31 +303,31 @@ fn last_overflow(run: &mut Run, plan: &Plan) {
         run.leaves(Call::Close, (0, 0), &fresh);
         return;
     }
-    let after = overflowed(plan, &sound, last, END);
+    let after = overflowed(plan, &sound, bucket, END);
     run.leaves(Call::Increment { flow }, (0, plan.start(2)), &after);
     run.answers(Call::Check, (0, 0));
     run.leaves(Call::Close, (0, 0), &fresh);
-    unsound_at(run, plan, &with(&after, plan.length() - 1, plan.start(2) - 1), last);
+    unsound_at(run, plan, &with(&after, plan.length() - 1, plan.start(2) - 1), bucket);
     // over a last word that is not 0
     unsound(run, &with(&sound, plan.length() - 1, 1));
-    run.leaves(Call::Increment { flow: plan.flow(last, END - 1) }, (0, plan.start(2)), &overflowed(plan, &sound, last, END - 1));
+    run.leaves(Call::Increment { flow: plan.flow(bucket, END - 1) }, (0, plan.start(2)), &overflowed(plan, &sound, bucket, END - 1));
 }
 
 /// One bit of each word of the last bucket, whose last place uses every level.
 fn last_words(run: &mut Run, plan: &Plan) {
     let p = plan.levels.count();
-    let last = plan.buckets() - 1;
+    let bucket = plan.buckets() - 1;
     let deep = last_once(plan, plan.start(p));
     run.load(&deep);
     run.answers(Call::Check, (0, 0));
-    run.answers(Call::Lookup { flow: plan.flows() - 1 }, (0, plan.start(p)));
+    run.answers(Call::Lookup { flow: last(plan) }, (0, plan.start(p)));
     // a count over the total, a mark without an entry, a bit above each level's entries, a spare bit, a number without the flag
     let mut damages = vec![(0, 0), (plan.i1(), 0)];
     damages.extend((2..=p).map(|j| (plan.a(j), 63)));
     damages.extend([(plan.packed(), 41), (plan.packed(), 63)]);
     let (first, step) = if plan.bits < MANY_BITS { (0, 1) } else { (plan.bits as usize % 3, 3) };
     for (word, bit) in damages.into_iter().skip(first).step_by(step) {
-        let at = plan.bucket_at(last) + word;
-        unsound_at(run, plan, &with(&deep, at, deep[at] ^ 1 << bit), last);
+        let at = plan.bucket_at(bucket) + word;
+        unsound_at(run, plan, &with(&deep, at, deep[at] ^ 1 << bit), bucket);
     }
 }

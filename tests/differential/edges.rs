@@ -1,8 +1,9 @@
 //! "Both sides of each edge" of the scope of work: each row is run on both stores, and the numbers and words expected are those of its text.
 //!
-//! Shape 3, w1 1, b 6, M 100, J 0 unless said. A wall of these is four words of header, then A1, I1, A2, A3 and the packed word.
+//! Shape 3, w1 1, b 6, M 100, J 0, spread 0 unless said. A wall of these is four words of header, then A1, I1, A2, A3 and the packed word.
 
 mod busy;
+mod spread;
 
 use crate::archive;
 use crate::pen::{self, Pen};
@@ -18,14 +19,14 @@ const CROWD_FLAGGED: [u64; 5] = [CROWD[0], CROWD[1], CROWD[2], CROWD[3], 1 << 40
 
 pub struct Store {
     name: &'static str,
-    raise: fn(&mut [u64], u64, u64, u64, u64, u64) -> Answer,
+    raise: fn(&mut [u64], u64, u64, u64, u64, u64, u64) -> Answer,
     lookup: fn(&[u64], u64) -> Answer,
     increment: fn(&mut [u64], u64) -> Answer,
     check: fn(&[u64]) -> Answer,
     busy: fn(&[u64], u64, &mut [u64]) -> Answer,
     busy_without_list: fn(&[u64], u64) -> Answer,
     close: fn(&mut [u64]) -> Answer,
-    slot: fn(u64, u64) -> Answer,
+    slot: fn(u64, u64, u64) -> Answer,
     limits: fn(u64, u64) -> Answer,
     image: fn(&[u8], u64) -> Answer,
 }
@@ -63,6 +64,8 @@ struct Row<'a> {
     name: &'static str,
     /// Where the lists of busy stand.
     list: &'a mut Pen,
+    /// Of the walls that the row raises.
+    spread: u64,
     failed: bool,
 }
 
@@ -81,10 +84,11 @@ impl Row<'_> {
         }
     }
 
-    /// Each word of a wall of the base: total, U, then A1, I1, A2, A3 and the packed word.
+    /// Each word of a wall of the base: total, U and the spread, then A1, I1, A2, A3 and the packed word.
     fn base(&mut self, words: &[u64], total: u64, used: u64, bucket: [u64; 5]) {
         self.holds("total", words[2], total);
-        self.holds("U", words[3] >> 16, used);
+        self.holds("U", words[3] >> 16 & 0xffff, used);
+        self.holds("the spread", words[3] >> 32, self.spread);
         for (i, name) in ["A1", "I1", "A2", "A3", "the packed word"].into_iter().enumerate() {
             self.holds(name, words[BUCKET + i], bucket[i]);
         }
@@ -93,12 +97,12 @@ impl Row<'_> {
     fn raise<'w>(&mut self, pen: &'w mut Pen, length: usize, limit: u64, full: u64, expected: u64) -> &'w mut [u64] {
         let words = pen.words(length, true);
         words.fill(0x5555_5555_5555_5555);
-        let found = (self.store.raise)(words, 3, 1, 6, limit, full);
+        let found = (self.store.raise)(words, 3, 1, 6, limit, full, self.spread);
         self.answers("raise", found, (expected, 0));
         if expected != 0 {
             self.holds("words that a refusal changed", words.iter().filter(|word| **word != 0x5555_5555_5555_5555).count(), 0);
         } else {
-            let header = [0x06010300014C5742, limit, 0, full];
+            let header = [0x06010300014C5742, limit, 0, full + (self.spread << 32)];
             self.holds("words that differ from a fresh wall's", (0..length).filter(|i| words[*i] != *header.get(*i).unwrap_or(&0)).count(), 0);
             self.answers("check of the fresh wall", (self.store.check)(words), (0, 0));
         }
@@ -125,12 +129,12 @@ impl Row<'_> {
     }
 
     /// Flows 0 to 14 to 2, flow 15 to 1.
-    fn crowd(&mut self, words: &mut [u64]) {
+    fn crowd(&mut self, words: &mut [u64], bucket: [u64; 5]) {
         for flow in 0..15 {
             self.to(words, flow, 0, 2);
         }
         self.to(words, 15, 0, 1);
-        self.base(words, 31, 0, CROWD);
+        self.base(words, 31, 0, bucket);
     }
 }
 
@@ -145,15 +149,15 @@ const ROWS: &[(&str, Run)] = &[
     }),
     ("P2", |row, _| {
         for (flow, slot) in [(0, 0), (1, 32), (2, 16), (3, 48), (63, 63)] {
-            row.answers("slot", (row.store.slot)(6, flow), (0, slot));
+            row.answers("slot", (row.store.slot)(6, 0, flow), (0, slot));
         }
     }),
     ("P3", |row, pen| {
-        row.answers("slot of flow 1", (row.store.slot)(9, 1), (0, 256));
-        row.answers("slot of flow 8", (row.store.slot)(9, 8), (0, 32));
+        row.answers("slot of flow 1", (row.store.slot)(9, 0, 1), (0, 256));
+        row.answers("slot of flow 8", (row.store.slot)(9, 0, 8), (0, 32));
         // bucket 4, place 0 and bucket 0, place 32, in a wall of 8 buckets
         let words = pen.words(44, true);
-        row.answers("raise", (row.store.raise)(words, 3, 1, 9, 100, 0), (0, 0));
+        row.answers("raise", (row.store.raise)(words, 3, 1, 9, 100, 0, 0), (0, 0));
         row.to(words, 1, 0, 1);
         row.to(words, 8, 0, 1);
         for i in 4..44 {
@@ -188,13 +192,13 @@ const ROWS: &[(&str, Run)] = &[
     }),
     ("P7, J 0", |row, pen| {
         let words = row.raise(pen, 9, 100, 0, 0);
-        row.crowd(words);
+        row.crowd(words, CROWD);
         row.refused(words, 15, 12);
         row.answers("flow 15", (row.store.lookup)(words, 15), (0, 1));
     }),
     ("P7, J 1, and P8", |row, pen| {
         let words = row.raise(pen, 74, 100, 1, 0);
-        row.crowd(words);
+        row.crowd(words, CROWD);
         row.to(words, 15, 1, 2);
         row.base(words, 32, 1, CROWD_FLAGGED);
         for i in 0..65 {
@@ -228,7 +232,7 @@ const ROWS: &[(&str, Run)] = &[
     }),
     ("P10", |row, pen| {
         let words = row.raise(pen, 9, 31, 0, 0);
-        row.crowd(words);
+        row.crowd(words, CROWD);
         row.refused(words, 15, 10);
     }),
     ("M 262,143 is accepted, 262,144 gives 4", |row, pen| {
@@ -248,7 +252,7 @@ const ROWS: &[(&str, Run)] = &[
         row.base(words, 1, 0, [1 << 63, 0, 0, 0, 0]);
         row.refused(words, 64, 8);
         row.answers("lookup", (row.store.lookup)(words, 64), (8, 0));
-        row.answers("slot", (row.store.slot)(6, 64), (8, 0));
+        row.answers("slot", (row.store.slot)(6, 0, 64), (8, 0));
     }),
     ("L is 18, levels 2 and 3 begin at 2 and 32", |row, pen| {
         row.answers("limits", (row.store.limits)(3, 1), (0, 18));
@@ -286,16 +290,16 @@ const ROWS: &[(&str, Run)] = &[
 pub fn hold() -> bool {
     let (mut pen, mut list) = (Pen::new(2), Pen::new(2));
     let mut failed = false;
-    for (name, run) in ROWS.iter().chain(busy::ROWS) {
+    for (name, run) in ROWS.iter().chain(busy::ROWS).chain(spread::ROWS) {
         for store in [&PLAIN, &ARCHIVE] {
             pen::crashes_name(format!("edges row `{name}` on {}", store.name));
-            let mut row = Row { store, name, list: &mut list, failed: false };
+            let mut row = Row { store, name, list: &mut list, spread: 0, failed: false };
             run(&mut row, &mut pen);
             failed |= row.failed;
         }
     }
     if !failed {
-        println!("edges: {} rows hold on both stores", ROWS.len() + busy::ROWS.len());
+        println!("edges: {} rows hold on both stores", ROWS.len() + busy::ROWS.len() + spread::ROWS.len());
     }
     !failed
 }

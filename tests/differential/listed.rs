@@ -31,7 +31,7 @@ pub struct Listed {
 }
 
 fn slot(plan: &Plan, flow: u64) -> usize {
-    store::slot(plan.bits, flow).1 as usize
+    store::slot(plan.bits, plan.spread, flow).1 as usize
 }
 
 /// Whether a flow of at least the floor stands in a flagged bucket at a place that is moved, or at one that is not.

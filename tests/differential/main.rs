@@ -13,6 +13,8 @@ mod listed;
 mod met;
 mod parts;
 mod pen;
+mod slots;
+mod spreads;
 mod store;
 mod walls;
 
@@ -29,13 +31,13 @@ const SEED: u64 = 1;
 
 #[derive(Clone, Copy, Debug)]
 pub enum Call {
-    Raise { shape: u64, width: u64, bits: u64, limit: u64, full: u64 },
+    Raise { shape: u64, width: u64, bits: u64, limit: u64, full: u64, spread: u64 },
     Lookup { flow: u64 },
     Increment { flow: u64 },
     Check,
     Busy { floor: u64, length: usize },
     Close,
-    Slot { bits: u64, flow: u64 },
+    Slot { bits: u64, spread: u64, flow: u64 },
     Limits { shape: u64, width: u64 },
     Image { length: usize, n: u64 },
 }
@@ -114,13 +116,14 @@ impl Run {
         if let Call::Increment { flow } = call {
             self.met.step(&self.before, &self.ours, flow, ours);
         }
+        self.met.spreads.on_wall(call, &self.before, &self.ours, ours);
         self.compare(call, ours, theirs)
     }
 
     fn call_store(&mut self, call: Call) -> Answer {
         let words = &mut self.ours;
         match call {
-            Call::Raise { shape, width, bits, limit, full } => store::raise(words, shape, width, bits, limit, full),
+            Call::Raise { shape, width, bits, limit, full, spread } => store::raise(words, shape, width, bits, limit, full, spread),
             Call::Lookup { flow } => store::lookup(words, flow),
             Call::Increment { flow } => store::increment(words, flow),
             Call::Check => {
@@ -151,7 +154,7 @@ impl Run {
         }
         let words = self.pens.words(length);
         let answer = match call {
-            Call::Raise { shape, width, bits, limit, full } => archive::raise(words, shape, width, bits, limit, full),
+            Call::Raise { shape, width, bits, limit, full, spread } => archive::raise(words, shape, width, bits, limit, full, spread),
             Call::Lookup { flow } => archive::lookup(words, flow),
             Call::Increment { flow } => archive::increment(words, flow),
             Call::Check => archive::check(words),

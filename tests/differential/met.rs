@@ -1,6 +1,7 @@
 //! What a run met: a reader sees that it reaches what it is to test, and a run that does not fails.
 
 use crate::listed::Listed;
+use crate::spreads::Spreads;
 use crate::store::{self, Answer, Finding, PLACES};
 use crate::walls::Plan;
 use crate::Call;
@@ -8,15 +9,15 @@ use std::collections::BTreeMap;
 
 const CALLS: [&str; 9] = ["raise", "lookup", "increment", "check", "busy", "close", "slot", "limits", "image"];
 
-/// 0 to 14.
-const NUMBERS: usize = 15;
+/// 0 to 15.
+const NUMBERS: usize = 16;
 
 /// The numbers that the documents let each call give. 11 is left out: the bucket's counts add up to at most the total, so 10 or 9 comes before it.
 const GIVEN: [&[usize]; 9] =
-    [&[0, 1, 2, 3, 4, 5, 6], &[0, 7, 8, 9], &[0, 7, 8, 9, 10, 12], &[0, 7, 9, 13], &[0, 7, 9, 13, 14], &[0, 7], &[0, 3, 8], &[0, 1, 2], &[0, 6]];
+    [&[0, 1, 2, 3, 4, 5, 6, 15], &[0, 7, 8, 9], &[0, 7, 8, 9, 10, 12], &[0, 7, 9, 13], &[0, 7, 9, 13, 14], &[0, 7], &[0, 3, 8, 15], &[0, 1, 2], &[0, 6]];
 
-const BAD_HEADER: [&str; 13] =
-    ["fewer than 4 words", "mark", "version", "shape", "width 0", "width", "b", "M", "J", "length", "total over M", "U over J", "spare bits of word 3"];
+const BAD_HEADER: [&str; 14] =
+    ["fewer than 4 words", "mark", "version", "shape", "width 0", "width", "b", "M", "J", "m even", "m over 2^b", "length", "total over M", "U over J"];
 
 /// What is unsound about a bucket, and about a wall of sound buckets.
 const UNSOUND: [&str; 16] = [
@@ -64,12 +65,18 @@ pub struct Met {
     /// Walls checked whose lowest unsound bucket is the last, by shape from 3 and b from 6.
     last: [[u64; 17]; 3],
     listed: Listed,
+    pub spreads: Spreads,
 }
 
 /// The plan of a wall whose header is good.
 pub fn plan_of(words: &[u64]) -> Plan {
     let byte = |n: u32| words[0] >> (8 * n) & 0xff;
-    Plan::new(byte(5), byte(6), byte(7), words[3] as usize & 0xffff)
+    Plan::new(byte(5), byte(6), byte(7), words[3] as usize & 0xffff).spread(words[3] >> 32)
+}
+
+/// U
+pub fn used(words: &[u64]) -> u64 {
+    words[3] >> 16 & 0xffff
 }
 
 /// The header of a wall for a reader.
@@ -78,8 +85,8 @@ pub fn describe(words: &[u64]) -> String {
         return "no header".to_string();
     }
     let byte = |n: u32| words[0] >> (8 * n) & 0xff;
-    let (j, u) = (words[3] & 0xffff, words[3] >> 16 & 0xffff);
-    format!("before the call: shape {}, w1 {}, b {}, M {}, total {}, J {j}, U {u}; words:", byte(5), byte(6), byte(7), words[1], words[2])
+    let (j, u, m) = (words[3] & 0xffff, used(words), words[3] >> 32);
+    format!("before the call: shape {}, w1 {}, b {}, M {}, total {}, J {j}, U {u}, m {m}; words:", byte(5), byte(6), byte(7), words[1], words[2])
 }
 
 impl Met {
@@ -133,7 +140,7 @@ impl Met {
         if plan.full != 4096 {
             return;
         }
-        let used = words[3] >> 16;
+        let used = used(words);
         let holders: Vec<usize> = (0..plan.buckets()).filter(|n| words[plan.bucket_at(*n) + plan.packed()] >> 40 == 4095 << 8 | 1).collect();
         let rest = words[plan.full_at(4095)..].iter().any(|word| *word != 0);
         let met = match finding {
@@ -154,7 +161,7 @@ impl Met {
             return;
         }
         let plan = plan_of(before);
-        let slot = store::slot(plan.bits, flow).1 as usize;
+        let slot = store::slot(plan.bits, plan.spread, flow).1 as usize;
         let packed = plan.bucket_at(slot / PLACES) + plan.packed();
         let flagged = |words: &[u64]| words[packed] >> 40 & 1 == 1;
         let count = if number == 0 { value } else { store::lookup(before, flow).1 + 1 };
@@ -178,8 +185,8 @@ impl Met {
         let level = if step < 3 { level.unwrap_or(0) } else { 0 };
         let shape = plan.shape as usize - 3;
         self.steps[shape][step][level] += 1;
-        self.largest[shape][4] += (step == 1 && after[3] >> 16 == 4096) as u64;
-        self.largest[shape][5] += (step == 2 && before[3] >> 16 == 4096) as u64;
+        self.largest[shape][4] += (step == 1 && used(after) == 4096) as u64;
+        self.largest[shape][5] += (step == 2 && used(before) == 4096) as u64;
     }
 
     pub fn print(&self) {
@@ -205,6 +212,7 @@ impl Met {
             }
         }
         self.listed.print();
+        self.spreads.print();
         self.print_corners();
         println!("\nwalls checked that are unsound for this reason, and for it alone, by shape 3, 4, 5:");
         for reason in UNSOUND {
@@ -283,6 +291,7 @@ impl Met {
                 missing.push(format!("no header is bad for: {reason}"));
             }
         }
+        missing.extend(self.spreads.missing());
         for line in &missing {
             println!("differential: not covered: {line}");
         }

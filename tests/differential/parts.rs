@@ -1,8 +1,10 @@
-//! The parts of a run: which walls are made, and which calls on them. Those of the largest sizes that are not random are in corners.rs.
+//! The parts of a run: which walls are made, and which calls on them. Those of the largest sizes that are not random are in corners.rs, the slot calls in
+//! slots.rs.
 
 use crate::archive;
 use crate::busy;
 use crate::corners;
+use crate::slots;
 use crate::store::{self, PLACES};
 use crate::walls::{self, Plan, Rng, Wall};
 use crate::{Call, Run};
@@ -23,8 +25,10 @@ pub const PARTS: &[Part] = &[
     Part { name: "damage", cases: 70_000, run: damage },
     Part { name: "unsound", cases: 30_000, run: unsound },
     Part { name: "headers", cases: 150, run: headers },
+    Part { name: "reread", cases: GRID / 4, run: reread },
     Part { name: "large", cases: 39, run: large },
-    Part { name: "slots", cases: 17, run: slots },
+    Part { name: "slots", cases: 17, run: slots::slots },
+    Part { name: "spreads", cases: 3, run: slots::spreads },
     Part { name: "limits", cases: 300, run: limits },
     Part { name: "images", cases: 4000, run: images },
     Part { name: "numbers", cases: corners::SHAPES_AND_WIDTHS, run: corners::numbers },
@@ -39,16 +43,24 @@ fn grid(case: u64) -> (u64, u64, u64, u64) {
     (3 + case % 3, case / 3 % 17, 6 + case / 51 % 4, case / 204 % 4)
 }
 
-/// A plan of the grid, with the default width for 0 and no more full-size buckets than buckets.
-fn grid_plan(case: u64) -> Plan {
+/// A plan of the grid, with the default width for 0 and no more full-size buckets than buckets, and some spread.
+fn grid_plan(rng: &mut Rng, case: u64) -> Plan {
     let (shape, width, bits, full) = grid(case);
-    Plan::new(shape, if width == 0 { 7 } else { width }, bits, full.min(1 << (bits - 6)) as usize)
+    let spread = walls::spread(rng, bits);
+    Plan::new(shape, if width == 0 { 7 } else { width }, bits, full.min(1 << (bits - 6)) as usize).spread(spread)
 }
 
-/// Raise at each point of the grid: limits on both sides of their edges, the exact length and wrong ones.
+impl Plan {
+    /// The raise of a wall of this plan.
+    pub fn raise(&self, limit: u64) -> Call {
+        Call::Raise { shape: self.shape, width: self.width, bits: self.bits, limit, full: self.full as u64, spread: self.spread }
+    }
+}
+
+/// Raise at each point of the grid: limits on both sides of their edges, the exact length and wrong ones, spreads and others.
 fn raise(run: &mut Run, case: u64) {
     let (shape, width, bits, full) = grid(case);
-    let mut plan = grid_plan(case);
+    let mut plan = grid_plan(&mut run.rng, case);
     plan.full = full as usize; // over h too
     let exact = plan.length();
     let top = plan.top();
@@ -56,7 +68,8 @@ fn raise(run: &mut Run, case: u64) {
         let shorter = plan.length() - plan.stride();
         for length in [exact, exact - 1, exact + 1, 0, 3, 4, shorter, exact + plan.stride(), exact + 65, exact.saturating_sub(65)] {
             run.load_random(length);
-            let (number, _) = run.call(Call::Raise { shape, width, bits, limit, full });
+            let spread = if run.rng.one_in(8) { walls::no_spread(&mut run.rng, bits) } else { walls::spread(&mut run.rng, bits) };
+            let (number, _) = run.call(Call::Raise { shape, width, bits, limit, full, spread });
             if number == 0 {
                 run.call(Call::Check);
                 let none = vec![0; plan.flows() as usize];
@@ -97,9 +110,11 @@ fn hostile(run: &mut Run, _: u64) {
         let limit = rng.between(1, plan.top());
         let limit = argument(rng, limit);
         let full = argument(rng, plan.full as u64);
+        let spread = walls::spread(rng, plan.bits);
+        let spread = argument(rng, spread);
         let length = if rng.one_in(4) { rng.index(600) } else { plan.length() };
         run.load_random(length);
-        run.call(Call::Raise { shape, width, bits, limit, full });
+        run.call(Call::Raise { shape, width, bits, limit, full, spread });
     }
 }
 
@@ -170,12 +185,11 @@ fn limit(rng: &mut Rng, plan: &Plan) -> u64 {
 
 /// Long runs from a fresh wall, then a close.
 fn fresh(run: &mut Run, case: u64) {
-    let plan = grid_plan(case);
+    let plan = grid_plan(&mut run.rng, case);
     let (_, width, _, _) = grid(case);
     let limit = limit(&mut run.rng, &plan);
     run.load_random(plan.length());
-    let raised = Call::Raise { shape: plan.shape, width, bits: plan.bits, limit, full: plan.full as u64 };
-    run.call(raised);
+    run.call(Call::Raise { shape: plan.shape, width, bits: plan.bits, limit, full: plan.full as u64, spread: plan.spread });
     let fresh = run.ours.clone();
     // few places that grow far, or many that grow a little, in more buckets than there are full-size ones
     let rng = &mut run.rng;
@@ -197,9 +211,9 @@ fn fresh(run: &mut Run, case: u64) {
 
 /// Widths 9 to 16 from a fresh wall until a place crosses into level 2.
 fn long(run: &mut Run, case: u64) {
-    let plan = Plan::new(3 + case % 3, 9 + case / 3, 6, 1);
+    let plan = Plan::new(3 + case % 3, 9 + case / 3, 6, 1).spread(walls::spread(&mut run.rng, 6));
     run.load_random(plan.length());
-    run.call(Call::Raise { shape: plan.shape, width: plan.width, bits: plan.bits, limit: plan.top(), full: 1 });
+    run.call(plan.raise(plan.top()));
     let hot = [run.rng.below(64), run.rng.below(64)];
     let mut counts = vec![0; plan.flows() as usize];
     drive(run, &plan, &mut counts, &hot, (3 << plan.width) / 2, 4001);
@@ -219,7 +233,7 @@ fn by_flow(plan: &Plan, counts: &[Vec<u64>]) -> Vec<u64> {
 
 /// Runs from a sound wall whose counts stand where increments would take long to bring them.
 fn grown(run: &mut Run, case: u64) {
-    let plan = grid_plan(case);
+    let plan = grid_plan(&mut run.rng, case);
     let wall = Wall::random(&mut run.rng, &plan);
     run.load(&wall.words());
     let by_bucket = wall.counts();
@@ -239,6 +253,18 @@ fn grown(run: &mut Run, case: u64) {
     busy::known(run, &counts, 1);
     let steps = 20 + run.rng.below(100);
     drive(run, &plan, &mut counts, &hot, steps, 25);
+}
+
+/// A raise and a header with an m that is no spread.
+fn no_spread(run: &mut Run, plan: &Plan) {
+    run.answers(plan.raise(plan.top()), (15, 0));
+    let mut words = run.ours.clone();
+    words[..4].copy_from_slice(&[plan.first_word(), plan.top(), 0, plan.fourth_word(0)]);
+    run.load(&words);
+    for call in [Call::Check, Call::Lookup { flow: 0 }, Call::Increment { flow: 0 }, Call::Close] {
+        run.answers(call, (7, 0));
+    }
+    run.busy(0, 2, Err(7));
 }
 
 /// Every call on these words. Each increment and the close start from them again.
@@ -286,8 +312,8 @@ fn all_calls(run: &mut Run, plan: &Plan, words: &[u64], bucket: usize) {
 
 /// Random sound walls, damaged in one to three ways, of the right length or not.
 fn damage(run: &mut Run, case: u64) {
-    let plan = grid_plan(case);
     let rng = &mut run.rng;
+    let plan = grid_plan(rng, case);
     let mut words = Wall::random(rng, &plan).words();
     let mut bucket = 0;
     for _ in 0..rng.pick(&[1, 1, 1, 2, 3]) {
@@ -306,7 +332,7 @@ fn damage(run: &mut Run, case: u64) {
 
 /// Each bit of each word of a wall flipped, for each shape and width.
 fn bits(run: &mut Run, case: u64) {
-    let plan = Plan::new(3 + case % 3, 1 + case / 3, 6, 1);
+    let plan = Plan::new(3 + case % 3, 1 + case / 3, 6, 1).spread(walls::spread(&mut run.rng, 6));
     let sound = Wall::random(&mut run.rng, &plan).words();
     for bit in 0..64 * sound.len() {
         let mut words = sound.clone();
@@ -325,14 +351,15 @@ fn bits(run: &mut Run, case: u64) {
 
 /// Walls that are unsound in one way only.
 fn unsound(run: &mut Run, case: u64) {
-    let plan = grid_plan(case / walls::UNSOUND);
+    let plan = grid_plan(&mut run.rng, case / walls::UNSOUND);
     let (words, bucket) = walls::unsound(&mut run.rng, &plan, case % walls::UNSOUND);
     all_calls(run, &plan, &words, bucket);
 }
 
 /// Each bit of the header flipped, and headers that are wrong in one number and have the length that this number asks for.
 fn headers(run: &mut Run, case: u64) {
-    let plan = grid_plan(run.rng.below(GRID));
+    let point = run.rng.below(GRID);
+    let plan = grid_plan(&mut run.rng, point);
     let mut sound = Wall::random(&mut run.rng, &plan).words();
     if case % 2 == 0 {
         walls::retotal(&mut run.rng, &plan, &mut sound, true);
@@ -373,7 +400,7 @@ fn headers(run: &mut Run, case: u64) {
     // J at h and above it
     for full in [plan.buckets() - 1, plan.buckets(), plan.buckets() + 1, plan.buckets() + 2] {
         let mut words = sound.clone();
-        words[3] = full as u64 | (words[3] >> 16 & 0xffff) << 16;
+        words[3] = words[3] & !0xffff | full as u64;
         words.resize(size(plan.buckets(), plan.width as usize, full), 0);
         wrong.push(words);
     }
@@ -388,15 +415,20 @@ fn headers(run: &mut Run, case: u64) {
         (2, sound[1]),
         (2, sound[1] + 1),
         (2, u64::MAX),
-        (3, sound[3] & 0xffff | (plan.full as u64) << 16),
-        (3, sound[3] & 0xffff | (plan.full as u64 + 1) << 16),
+        (3, plan.fourth_word(plan.full)),
+        (3, plan.fourth_word(plan.full + 1)),
         (3, sound[3] | 0xffff << 16),
         (3, sound[3] | 0xffff),
-        (3, sound[3] | 1 << 32),
         (3, u64::MAX),
     ] {
         let mut words = sound.clone();
         words[i] = value;
+        wrong.push(words);
+    }
+    let flows = plan.flows();
+    for m in [0, 1, 2, flows / 2, flows - 2, flows - 1, flows, flows + 1, 2 * flows - 1, (1 << 16) + 1, 1 << 31, (1 << 31) + 1, 0xffff_ffff] {
+        let mut words = sound.clone();
+        words[3] = words[3] & 0xffff_ffff | m << 32;
         wrong.push(words);
     }
     // all the largest at once, behind a good mark and version or not
@@ -414,29 +446,58 @@ fn headers(run: &mut Run, case: u64) {
     }
 }
 
-/// b from 10 to 22, J to 4,096, in each shape.
+/// The same buckets at one spread after the other: each flow's count is that of its slot at this spread. Then a raise over them with another.
+fn reread(run: &mut Run, case: u64) {
+    let mut plan = grid_plan(&mut run.rng, case);
+    plan.full = run.rng.index(plan.buckets().min(3) + 1);
+    let wall = Wall::random(&mut run.rng, &plan);
+    let flows = plan.flows();
+    for spread in [plan.spread, 0, 1, flows - 1, 2 * run.rng.below(flows / 2) + 1] {
+        let wall = Wall { plan: plan.clone().spread(spread), ..wall.clone() };
+        let counts = by_flow(&wall.plan, &wall.counts());
+        run.load(&wall.words());
+        run.answers(Call::Check, (0, 0));
+        busy::known(run, &counts, 2);
+        (0..flows).for_each(|flow| look(run, &plan, &counts, flow));
+        for _ in 0..10 {
+            let flow = run.rng.below(flows);
+            run.call(Call::Increment { flow });
+        }
+        run.leaves(Call::Close, (0, 0), &wall.emptied().words());
+        let other = Wall { plan: plan.clone().spread((spread == 0) as u64), ..wall.emptied() };
+        run.load(&wall.words());
+        run.leaves(other.plan.raise(wall.limit), (0, 0), &other.words());
+    }
+}
+
+/// b from 10 to 22, J to 4,096, in each shape, and in one the largest spread, in another some spread.
 fn large(run: &mut Run, case: u64) {
     let (shape, bits) = (3 + case % 3, 10 + case / 3);
     let buckets = 1usize << (bits - 6);
     let width = if bits == 22 && shape == 5 { 16 } else { run.rng.between(1, 16) };
     let most = buckets.min(4096);
-    let mut plan = Plan::new(shape, width, bits, most);
+    let flows = 1 << bits;
+    let spread = [flows - 1, 2 * run.rng.below(flows / 2) + 1, 0][case as usize % 3];
+    let mut plan = Plan::new(shape, width, bits, most).spread(spread);
     let limit = plan.top();
     // one J too many, with the words that it would take
     plan.full = most + 1;
     run.load_random(plan.length());
-    run.call(Call::Raise { shape, width, bits, limit, full: plan.full as u64 });
+    run.call(plan.raise(limit));
     let mut words = vec![0; plan.length()];
-    words[..4].copy_from_slice(&[plan.first_word(), limit, 0, plan.full as u64]);
+    words[..4].copy_from_slice(&[plan.first_word(), limit, 0, plan.fourth_word(0)]);
     run.load(&words);
     run.call(Call::Check);
     run.call(Call::Lookup { flow: 0 });
     run.call(Call::Increment { flow: 0 });
     run.call(Call::Close);
-    // the most; then b one too high, or J without its words
+    // no spread; then the most; then b one too high, or J without its words
     plan.full = most;
     run.load_random(plan.length());
-    run.call(Call::Raise { shape, width, bits, limit, full: most as u64 });
+    for spread in [flows - 2, flows, flows + 1] {
+        no_spread(run, &plan.clone().spread(spread));
+    }
+    run.answers(plan.raise(limit), (0, 0));
     run.call(Call::Check);
     for flow in [0, 1, plan.flows() - 1, plan.flows(), u64::MAX] {
         for _ in 0..3 {
@@ -461,11 +522,11 @@ fn large(run: &mut Run, case: u64) {
         run.call(Call::Lookup { flow: 0 });
         run.call(Call::Increment { flow: 0 });
         run.call(Call::Close);
-        run.call(Call::Raise { shape, width: 1, bits: 23, limit: 1, full: 0 });
+        run.call(above.raise(1));
     }
     // many full-size buckets in use
     if bits <= 18 {
-        let plan = Plan::new(shape, 16, bits, most);
+        let plan = Plan::new(shape, 16, bits, most).spread(spread);
         let wall = Wall::random(&mut run.rng, &plan);
         let words = wall.words();
         run.load(&words);
@@ -489,29 +550,6 @@ fn large(run: &mut Run, case: u64) {
             all_calls(run, &plan, &words, bucket);
         }
     }
-}
-
-/// Every flow of the smaller walls, many of the larger ones, and numbers out of range.
-fn slots(run: &mut Run, case: u64) {
-    let bits = 6 + case;
-    let flows = 1u64 << bits;
-    let step = (flows >> 14).max(1);
-    for n in 0..flows / step {
-        let flow = n * step + run.rng.below(step);
-        let (_, slot) = slot(run, bits, flow);
-        let (_, back) = self::slot(run, bits, slot);
-        run.expect(Call::Slot { bits, flow: slot }, (0, back), (0, flow));
-    }
-    for flow in [0, 1, flows - 1, flows, flows + 1, 2 * flows, 1 << 32, 1 << 63, u64::MAX] {
-        slot(run, bits, flow);
-        for bits in [0, 1, 5, 23, 24, 63, 64, 65, 255, 256, 256 + bits, (1 << 32) + bits, 1 << 63, u64::MAX] {
-            slot(run, bits, flow);
-        }
-    }
-}
-
-fn slot(run: &mut Run, bits: u64, flow: u64) -> (u64, u64) {
-    run.compare(Call::Slot { bits, flow }, store::slot(bits, flow), archive::slot(bits, flow))
 }
 
 fn limits(run: &mut Run, case: u64) {

@@ -61,6 +61,8 @@ pub struct Header {
     pub full: usize,
     /// U
     pub used: usize,
+    /// m
+    pub spread: u64,
 }
 
 impl Header {
@@ -81,8 +83,18 @@ impl Header {
     }
 }
 
-/// The header that these arguments ask for (no increment accepted, none of J in use), or the first of the numbers 1 to 5 that applies.
-fn asked(shape: u64, width: u64, bits: u64, limit: u64, full: u64) -> Result<Header, u64> {
+/// What makes this m no spread of a wall of 2^b flows. 0 is one, and so is every odd m below 2^b.
+fn spread_fault(bits: u64, spread: u64) -> Option<&'static str> {
+    match spread {
+        0 => None,
+        _ if spread % 2 == 0 => Some("m even"),
+        _ if spread >= 1 << bits => Some("m over 2^b"),
+        _ => None,
+    }
+}
+
+/// The header that these arguments ask for (no increment accepted, none of J in use), or the first of the numbers 1 to 5 and then 15 that applies.
+fn asked(shape: u64, width: u64, bits: u64, limit: u64, full: u64, spread: u64) -> Result<Header, u64> {
     if upper_levels(shape).is_none() {
         return Err(1);
     }
@@ -100,7 +112,10 @@ fn asked(shape: u64, width: u64, bits: u64, limit: u64, full: u64) -> Result<Hea
     if full > buckets || full > 4096 {
         return Err(5);
     }
-    Ok(Header { levels, bits, limit, total: 0, full: full as usize, used: 0 })
+    if spread_fault(bits, spread).is_some() {
+        return Err(15);
+    }
+    Ok(Header { levels, bits, limit, total: 0, full: full as usize, used: 0, spread })
 }
 
 /// The header of a wall, or what is wrong with it (number 7).
@@ -118,12 +133,14 @@ fn header(words: &[u64]) -> Result<Header, &'static str> {
     if byte(6) == 0 {
         return Err("width 0");
     }
-    let mut header = asked(byte(5), byte(6), byte(7), words[1], words[3] & 0xffff).map_err(|number| match number {
+    let spread = words[3] >> 32;
+    let mut header = asked(byte(5), byte(6), byte(7), words[1], words[3] & 0xffff, spread).map_err(|number| match number {
         1 => "shape",
         2 => "width",
         3 => "b",
         4 => "M",
-        _ => "J",
+        5 => "J",
+        _ => spread_fault(byte(7), spread).unwrap(),
     })?;
     if words.len() != header.length() {
         return Err("length");
@@ -135,9 +152,6 @@ fn header(words: &[u64]) -> Result<Header, &'static str> {
     }
     if header.used > header.full {
         return Err("U over J");
-    }
-    if words[3] >> 32 != 0 {
-        return Err("spare bits of word 3");
     }
     Ok(header)
 }
@@ -416,9 +430,9 @@ pub fn examine(words: &[u64]) -> Finding {
     }
 }
 
-pub fn raise(words: &mut [u64], shape: u64, width: u64, bits: u64, limit: u64, full: u64) -> Answer {
+pub fn raise(words: &mut [u64], shape: u64, width: u64, bits: u64, limit: u64, full: u64, spread: u64) -> Answer {
     let width = if width == 0 { 7 } else { width };
-    let header = match asked(shape, width, bits, limit, full) {
+    let header = match asked(shape, width, bits, limit, full, spread) {
         Ok(header) => header,
         Err(number) => return (number, 0),
     };
@@ -430,14 +444,14 @@ pub fn raise(words: &mut [u64], shape: u64, width: u64, bits: u64, limit: u64, f
         words[0] |= byte << (8 * n);
     }
     words[1] = limit;
-    words[3] = full;
+    words[3] = full + (spread << 32);
     (0, 0)
 }
 
 /// Header, bucket's number, place, bucket and its counts, or the first of the numbers 7, 8 and 9 that applies.
 fn open(words: &[u64], flow: u64) -> Result<(Header, usize, usize, Bucket, Vec<u64>), u64> {
     let header = header(words).map_err(|_| 7u64)?;
-    let (number, slot) = slot(header.bits, flow);
+    let (number, slot) = slot(header.bits, header.spread, flow);
     if number != 0 {
         return Err(number);
     }
@@ -498,8 +512,8 @@ pub fn check(words: &[u64]) -> Answer {
 pub fn flow_counts(words: &[u64]) -> Result<Vec<u64>, u64> {
     match examine(words) {
         Finding::Sound(counts) => {
-            let slots = slots(header(words).map_err(|_| 7u64)?.bits);
-            Ok(slots.iter().map(|slot| counts[slot / PLACES][slot % PLACES]).collect())
+            let header = header(words).map_err(|_| 7u64)?;
+            Ok(slots(header.bits, header.spread).iter().map(|slot| counts[slot / PLACES][slot % PLACES]).collect())
         }
         finding => Err(finding.answer().0),
     }
@@ -531,22 +545,34 @@ pub fn close(words: &mut [u64]) -> Answer {
         Err(_) => return (7, 0),
     };
     words[2..].fill(0);
-    words[3] = header.full as u64;
+    words[3] = header.full as u64 + (header.spread << 32);
     (0, 0)
 }
 
-pub fn slot(bits: u64, flow: u64) -> Answer {
+pub fn slot(bits: u64, spread: u64, flow: u64) -> Answer {
     if bits < 6 || bits > 22 {
         return (3, 0);
+    }
+    if spread_fault(bits, spread).is_some() {
+        return (15, 0);
     }
     if flow >= 1 << bits {
         return (8, 0);
     }
-    (0, (0..bits).map(|i| (flow >> i & 1) << (bits - 1 - i)).sum())
+    if spread == 0 {
+        (0, (0..bits).map(|i| (flow >> i & 1) << (bits - 1 - i)).sum())
+    } else {
+        (0, flow * spread % (1 << bits))
+    }
 }
 
-/// The slots of all flows. A bit more is the flow's highest and the slot's lowest.
-fn slots(bits: u64) -> Vec<usize> {
+/// The slots of all flows. With a spread each is m on from the slot before it, and past the last slot from the first again. Without one, a bit more is the
+/// flow's highest and the slot's lowest.
+fn slots(bits: u64, spread: u64) -> Vec<usize> {
+    if spread != 0 {
+        let step = |slot: &usize| Some((slot + spread as usize) % (1 << bits));
+        return std::iter::successors(Some(0), step).take(1 << bits).collect();
+    }
     let mut slots = vec![0];
     for _ in 0..bits {
         let doubled: Vec<usize> = slots.iter().map(|slot| 2 * slot).collect();

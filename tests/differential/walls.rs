@@ -66,6 +66,37 @@ impl Rng {
     }
 }
 
+/// A spread for this b, none for every other wall.
+pub fn spread(rng: &mut Rng, bits: u64) -> u64 {
+    let flows = 1 << bits;
+    match rng.below(10) {
+        0 => 1,
+        1 => flows - 1,
+        2 => rng.pick(&[3, 5, flows / 2 - 1, flows / 2 + 1, flows - 3]),
+        3 | 4 => 2 * rng.below(flows / 2) + 1,
+        _ => 0,
+    }
+}
+
+/// No spread for this b: even, or not below 2^b; some are one in their low 32 bits.
+pub fn no_spread(rng: &mut Rng, bits: u64) -> u64 {
+    let flows = 1 << bits;
+    match rng.below(5) {
+        0 => rng.pick(&[2, flows / 2, flows - 2, flows, flows + 1, 2 * flows - 1, 2 * flows + 1]),
+        1 => 2 * rng.between(1, flows / 2 - 1),
+        2 => spread(rng, bits) + (1 << rng.between(bits + 1, 63)),
+        3 => spread(rng, bits) + (rng.between(1, u32::MAX as u64) << 32),
+        _ => rng.next() | 1 << 62,
+    }
+}
+
+/// The spread that leads from a slot to its flow: of 0 it is 0, of m the number whose product with m is 1. m is that in its low 3 bits, and each step doubles
+/// the bits that are right.
+pub fn back(bits: u64, spread: u64) -> u64 {
+    let right: u64 = (0..3).fold(spread, |back, _| back.wrapping_mul(2u64.wrapping_sub(back.wrapping_mul(spread))));
+    right % (1 << bits)
+}
+
 /// The parameters of a wall, and where its words stand.
 #[derive(Clone)]
 pub struct Plan {
@@ -74,12 +105,18 @@ pub struct Plan {
     pub bits: u64,
     pub full: usize,
     pub levels: Levels,
+    /// m
+    pub spread: u64,
 }
 
 impl Plan {
-    /// Shape 3 to 5, width 1 to 16.
+    /// Shape 3 to 5, width 1 to 16. The slots are the reversed flows.
     pub fn new(shape: u64, width: u64, bits: u64, full: usize) -> Plan {
-        Plan { shape, width, bits, full, levels: Levels::new(shape, width).unwrap() }
+        Plan { shape, width, bits, full, levels: Levels::new(shape, width).unwrap(), spread: 0 }
+    }
+
+    pub fn spread(self, spread: u64) -> Plan {
+        Plan { spread, ..self }
     }
 
     pub fn buckets(&self) -> usize {
@@ -129,7 +166,11 @@ impl Plan {
     }
 
     pub fn flow(&self, bucket: usize, place: usize) -> u64 {
-        store::slot(self.bits, (bucket * PLACES + place) as u64).1
+        store::slot(self.bits, back(self.bits, self.spread), (bucket * PLACES + place) as u64).1
+    }
+
+    pub fn fourth_word(&self, used: usize) -> u64 {
+        self.full as u64 | (used as u64) << 16 | self.spread << 32
     }
 
     pub fn first_word(&self) -> u64 {
@@ -181,6 +222,7 @@ impl Plan {
 }
 
 /// A sound wall as lists of counts.
+#[derive(Clone)]
 pub struct Wall {
     pub plan: Plan,
     pub limit: u64,
@@ -247,10 +289,15 @@ impl Wall {
         counts
     }
 
+    /// The same wall without a count.
+    pub fn emptied(&self) -> Wall {
+        Wall { own: vec![vec![0; PLACES]; self.plan.buckets()], moved: Vec::new(), ..self.clone() }
+    }
+
     pub fn words(&self) -> Vec<u64> {
         let plan = &self.plan;
         let total: u64 = self.counts().iter().flatten().sum();
-        let mut words = vec![plan.first_word(), self.limit, total, plan.full as u64 | (self.moved.len() as u64) << 16];
+        let mut words = vec![plan.first_word(), self.limit, total, plan.fourth_word(self.moved.len())];
         let mut numbers = vec![None; plan.buckets()];
         for (number, (bucket, _)) in self.moved.iter().enumerate() {
             numbers[*bucket] = Some(number as u64);
@@ -339,7 +386,7 @@ pub fn damage(rng: &mut Rng, plan: &Plan, words: &mut Vec<u64>) -> usize {
     let p = plan.levels.count();
     let marks: usize = plan.levels.0[1..p - 1].iter().map(|(k, _)| k).sum();
     let full = if plan.full > 0 { Some(plan.full_at(rng.index(plan.full))) } else { None };
-    match rng.below(26) {
+    match rng.below(27) {
         // one bit of each field
         0 => words[rng.index(4)] ^= 1 << rng.below(64),
         1 => words[at + rng.index(plan.width as usize)] ^= 1 << rng.below(64),
@@ -398,7 +445,7 @@ pub fn damage(rng: &mut Rng, plan: &Plan, words: &mut Vec<u64>) -> usize {
         19 => words[1] = rng.pick(&[words[2], words[2].wrapping_sub(1), 0, 1, plan.top(), plan.top() + 1, u64::MAX]),
         20 => {
             let used = rng.pick(&[words[3] >> 16, words[3] >> 16 ^ 1, (words[3] >> 16) + 1, plan.full as u64, plan.full as u64 + 1, 0xffff, 0]);
-            words[3] = words[3] & 0xffff | (used & 0xffff) << 16;
+            words[3] = words[3] & !(0xffff << 16) | (used & 0xffff) << 16;
         }
         // J with or without the words for it
         21 => {
@@ -407,6 +454,11 @@ pub fn damage(rng: &mut Rng, plan: &Plan, words: &mut Vec<u64>) -> usize {
             if j < 64 && rng.one_in(2) {
                 words.resize(plan.full_at(j as usize), 0);
             }
+        }
+        // another m, good or not
+        25 => {
+            let m = if rng.one_in(2) { spread(rng, plan.bits) } else { no_spread(rng, plan.bits) };
+            words[3] = words[3] & 0xffff_ffff | m << 32;
         }
         // another shape and width of the same length
         22 => {

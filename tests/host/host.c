@@ -30,10 +30,10 @@ static void judge(wall_answer came, uint64_t number, uint64_t value)
             call, number, value, value, came.number, came.value, came.value);
 }
 
-static void slot(uint64_t bits, uint64_t flow, uint64_t number, uint64_t value)
+static void slot(uint64_t bits, uint64_t spread, uint64_t flow, uint64_t number, uint64_t value)
 {
-    snprintf(call, sizeof call, "wall_slot(%" PRIu64 ", %" PRIu64 ")", bits, flow);
-    judge(wall_slot(bits, flow), number, value);
+    snprintf(call, sizeof call, "wall_slot(%" PRIu64 ", %" PRIu64 ", %" PRIu64 ")", bits, spread, flow);
+    judge(wall_slot(bits, spread, flow), number, value);
 }
 
 static void limits(uint64_t shape, uint64_t width, uint64_t number, uint64_t value)
@@ -69,48 +69,119 @@ static uint64_t reversed(unsigned bits, uint64_t flow)
     return r;
 }
 
-static void slots(void)
+/* Bits 6 to 22 and no others, however large; the last flow and the one after it; 3 before 8. */
+static void slots_within(uint64_t spread)
 {
-    /* bits 6 to 22 and no others, however large */
     for (uint64_t b = 0; b <= 70; b++)
-        slot(b, 0, b >= 6 && b <= 22 ? WALL_DONE : WALL_BAD_BITS, 0);
-    slot(UINT64_MAX, 0, WALL_BAD_BITS, 0);
-    slot(256 + 6, 0, WALL_BAD_BITS, 0);
-    slot((UINT64_C(1) << 32) + 6, 0, WALL_BAD_BITS, 0);
-
-    /* the last flow and the one after it */
+        slot(b, spread, 0, b >= 6 && b <= 22 ? WALL_DONE : WALL_BAD_BITS, 0);
+    slot(UINT64_MAX, spread, 0, WALL_BAD_BITS, 0);
+    slot(256 + 6, spread, 0, WALL_BAD_BITS, 0);
+    slot((UINT64_C(1) << 32) + 6, spread, 0, WALL_BAD_BITS, 0);
     for (unsigned b = 6; b <= 22; b++) {
         uint64_t flows = UINT64_C(1) << b;
-        slot(b, flows - 1, WALL_DONE, flows - 1);
-        slot(b, flows, WALL_NO_FLOW, 0);
-        slot(b, UINT64_C(1) << 32, WALL_NO_FLOW, 0);
-        slot(b, UINT64_MAX, WALL_NO_FLOW, 0);
+        slot(b, spread, flows - 1, WALL_DONE, spread == 0 ? flows - 1 : flows - spread);
+        slot(b, spread, flows, WALL_NO_FLOW, 0);
+        slot(b, spread, UINT64_C(1) << 32, WALL_NO_FLOW, 0);
+        slot(b, spread, UINT64_MAX, WALL_NO_FLOW, 0);
     }
+    slot(5, spread, 32, WALL_BAD_BITS, 0);
+    slot(23, spread, UINT64_C(1) << 23, WALL_BAD_BITS, 0);
+    slot(0, spread, UINT64_MAX, WALL_BAD_BITS, 0);
+    slot(UINT64_MAX, spread, UINT64_MAX, WALL_BAD_BITS, 0);
+}
 
-    /* the document's slots, P2 and P3 */
-    slot(6, 0, WALL_DONE, 0);
-    slot(6, 1, WALL_DONE, 32);
-    slot(6, 2, WALL_DONE, 16);
-    slot(6, 3, WALL_DONE, 48);
-    slot(6, 63, WALL_DONE, 63);
-    slot(9, 1, WALL_DONE, 256);
-    slot(9, 8, WALL_DONE, 32);
-
-    /* every flow: its bits reversed, and its slot's slot is the flow again */
-    for (unsigned b = 6; b <= 12; b++)
-        for (uint64_t y = 0; y < UINT64_C(1) << b; y++) {
-            slot(b, y, WALL_DONE, reversed(b, y));
-            slot(b, wall_slot(b, y).value, WALL_DONE, y);
+/* Both sides of the spread's edges; 3 before 15 before 8. */
+static void spreads(void)
+{
+    const uint64_t high = UINT64_C(1) << 32, top = UINT64_C(1) << 63;
+    for (unsigned b = 6; b <= 22; b++) {
+        const uint64_t flows = UINT64_C(1) << b;
+        const uint64_t good[] = {1, 3, flows / 2 - 1, flows / 2 + 1, flows - 3, flows - 1};
+        const uint64_t bad[] = {2,    4,        flows - 2,        flows, flows + 1, 2 * flows - 1,  high - 2,  high - 1,
+                                high, high + 1, high + flows - 1, top,   top + 1,   UINT64_MAX - 1, UINT64_MAX};
+        for (size_t i = 0; i < sizeof good / sizeof *good; i++) {
+            slot(b, good[i], 1, WALL_DONE, good[i]);
+            slot(b, good[i], flows - 1, WALL_DONE, flows - good[i]);
+            slot(b, good[i], flows, WALL_NO_FLOW, 0);
         }
-    for (unsigned b = 13; b <= 22; b++)
-        for (uint64_t y = 0; y < UINT64_C(1) << b; y += 997)
-            slot(b, y, WALL_DONE, reversed(b, y));
+        for (size_t i = 0; i < sizeof bad / sizeof *bad; i++) {
+            slot(b, bad[i], 0, WALL_BAD_SPREAD, 0);
+            slot(b, bad[i], flows - 1, WALL_BAD_SPREAD, 0);
+            slot(b, bad[i], flows, WALL_BAD_SPREAD, 0);
+            slot(b, bad[i], UINT64_MAX, WALL_BAD_SPREAD, 0);
+        }
+    }
+    slot(5, 2, 0, WALL_BAD_BITS, 0);
+    slot(5, 32, 32, WALL_BAD_BITS, 0);
+    slot(23, (UINT64_C(1) << 23) + 1, 0, WALL_BAD_BITS, 0);
+    slot(UINT64_MAX, UINT64_MAX, UINT64_MAX, WALL_BAD_BITS, 0);
+}
 
-    /* 3 before 8 */
-    slot(5, 32, WALL_BAD_BITS, 0);
-    slot(23, UINT64_C(1) << 23, WALL_BAD_BITS, 0);
-    slot(0, UINT64_MAX, WALL_BAD_BITS, 0);
-    slot(UINT64_MAX, UINT64_MAX, WALL_BAD_BITS, 0);
+/* With spread 0 the document's slots, P2 and P3; with an odd one products by hand. A slot gives the flow back by spread 0, or by the inverse spread. */
+static void slots_by_hand(void)
+{
+    slot(6, 0, 0, WALL_DONE, 0);
+    slot(6, 0, 1, WALL_DONE, 32);
+    slot(6, 0, 2, WALL_DONE, 16);
+    slot(6, 0, 3, WALL_DONE, 48);
+    slot(6, 0, 63, WALL_DONE, 63);
+    slot(9, 0, 1, WALL_DONE, 256);
+    slot(9, 0, 8, WALL_DONE, 32);
+
+    slot(6, 1, 1, WALL_DONE, 1);
+    slot(6, 1, 32, WALL_DONE, 32);
+    slot(6, 37, 2, WALL_DONE, 10);
+    slot(6, 63, 62, WALL_DONE, 2);
+    slot(9, 511, 1, WALL_DONE, 511);
+    slot(16, 40503, 2, WALL_DONE, 15470);
+    slot(22, 4194303, 4194303, WALL_DONE, 1);
+    slot(22, 4194301, 4194302, WALL_DONE, 6);
+
+    slot(6, 0, 32, WALL_DONE, 1);
+    slot(6, 3, 1, WALL_DONE, 3);
+    slot(6, 3, 3, WALL_DONE, 9);
+    slot(6, 43, 3, WALL_DONE, 1);
+}
+
+/* Every flow of a spread: its bits reversed, or the spread added up as often as the flow says. All slots are met. */
+static void every_slot(unsigned b, uint64_t spread)
+{
+    static unsigned char met[1 << 12];
+    uint64_t flows = UINT64_C(1) << b, sum = 0, slots_met = 0;
+    memset(met, 0, sizeof met);
+    for (uint64_t y = 0; y < flows; y++, sum = (sum + spread) % flows) {
+        uint64_t came = wall_slot(b, spread, y).value;
+        slot(b, spread, y, WALL_DONE, spread == 0 ? reversed(b, y) : sum);
+        if (spread == 0)
+            slot(b, 0, came, WALL_DONE, y);
+        if (came < flows && !met[came])
+            met[came] = 1, slots_met++;
+    }
+    snprintf(call, sizeof call, "wall_slot(%u, %" PRIu64 ", all flows)", b, spread);
+    judge((wall_answer){WALL_DONE, slots_met}, WALL_DONE, flows);
+}
+
+static void slots(void)
+{
+    slots_within(0);
+    slots_within(1);
+    slots_within(3);
+    spreads();
+    slots_by_hand();
+    for (uint64_t spread = 1; spread < 1 << 6; spread += 2)
+        every_slot(6, spread);
+    for (unsigned b = 6; b <= 12; b++) {
+        const uint64_t flows = UINT64_C(1) << b, of[] = {0, 1, 3, flows / 2 + 1, 40503 % flows, flows - 1};
+        for (size_t i = 0; i < sizeof of / sizeof *of; i++)
+            every_slot(b, of[i]);
+    }
+    for (unsigned b = 13; b <= 22; b++)
+        for (uint64_t y = 0, flows = UINT64_C(1) << b; y < flows; y += 997) {
+            slot(b, 0, y, WALL_DONE, reversed(b, y));
+            slot(b, 1, y, WALL_DONE, y);
+            slot(b, 5003, y, WALL_DONE, y * 5003 % flows);
+            slot(b, flows - 1, y, WALL_DONE, (flows - y) % flows);
+        }
 }
 
 /* ---- the limits */

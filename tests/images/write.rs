@@ -32,7 +32,7 @@ type List = (u64, usize);
 
 /// Bucket and place of a flow.
 fn stands(plan: &Plan, flow: u64) -> (usize, usize) {
-    let slot = store::slot(plan.bits, flow).1 as usize;
+    let slot = store::slot(plan.bits, plan.spread, flow).1 as usize;
     (slot / PLACES, slot % PLACES)
 }
 
@@ -51,6 +51,9 @@ fn golden(name: &'static str, plan: &Plan, limit: u64, own: Counts, moved: &[Cou
         wall.moved.push((stands(plan, counts[0].0).0, full));
     }
     let mut about = format!("shape {}, w1 {}, b {}, M {limit}, J {}", plan.shape, plan.width, plan.bits, plan.full);
+    if plan.spread != 0 {
+        write!(about, ", spread {}", plan.spread).unwrap();
+    }
     let list = |counts: Counts| counts.iter().map(|(flow, count)| format!("{flow}:{count}")).collect::<Vec<_>>().join(" ");
     write!(about, "; own counts {}", if own.is_empty() { "0".to_string() } else { list(own) }).unwrap();
     for (number, counts) in moved.iter().enumerate() {
@@ -107,10 +110,27 @@ fn other_shapes() -> Vec<Golden> {
     ]
 }
 
+/// Odd spreads: the least, one by which an increment carries, one by which a bucket overflows, and the largest.
+fn spreads() -> Vec<Golden> {
+    let (plain, full) = (Plan::new(3, 1, 6, 0), Plan::new(3, 1, 6, 1).spread(5));
+    // flow 12 stands at place 60, the other multiples of 4 at the other places that are one
+    let brimful: Vec<(u64, u64)> = (0..16).map(|i| (4 * i, if i == 3 { 1 } else { 2 })).collect();
+    let grown = [(0, 4096), (1, 4095), (2, 256), (3, 255), (4, 32), (65, 300), (66, 31), (100, 8), (126, 7), (127, 1)];
+    vec![
+        golden("spread-one", &plain.clone().spread(1), 100, &[(1, 5), (2, 2)], &[], &[1, 2, 32], &[(1, 4), (1, 3)]),
+        golden("spread", &plain.spread(37), 100, &[(1, 31), (2, 2)], &[], &[1, 2, 3, 63, 64], &[(1, 4), (0, 127)]),
+        golden("spread-brimful", &full, 100, &brimful, &[], &[12, 0, 1], &[(1, 32), (2, 29)]),
+        golden("spread-overflowed", &full, 100, &brimful, &[&[(12, 2)]], &[12, 0, 63], &[(2, 32)]),
+        golden("spread-grown", &Plan::new(5, 3, 7, 1).spread(127), 20_000, &grown, &[], &[0, 1, 2, 3, 4, 64, 66, 126], &[(1, 20), (255, 10)]),
+    ]
+}
+
 fn damages(all: &[Golden]) -> Vec<Golden> {
     vec![
         damaged(all, "risen", "cut", "its last word is missing: 7", |words| words.truncate(8)),
-        damaged(all, "risen", "above-u", "word 3 has a bit above U: 7", |words| words[3] |= 1 << 63),
+        damaged(all, "risen", "even-spread", "the spread is 2: 7", |words| words[3] |= 2 << 32),
+        damaged(all, "risen", "spread-at-n", "the spread is 2^b: 7", |words| words[3] |= 64 << 32),
+        damaged(all, "risen", "spread-above-n", "the spread is 2^b + 1: 7", |words| words[3] |= 65 << 32),
         damaged(all, "third", "marks-stayed", "flow 1's mark stayed where its entry was: 9", |words| words[8] = 1),
         damaged(all, "risen", "above-used", "level 2 has a bit above the entries in use: 9", |words| words[6] |= 1 << 63),
         damaged(all, "risen", "below-counts", "the total is below the bucket's counts: 9", |words| words[2] = 6),
@@ -168,6 +188,7 @@ fn main() {
     let folder = PathBuf::from(std::env::args().nth(1).expect("usage: write FOLDER"));
     let mut all = worked_example();
     all.extend(other_shapes());
+    all.extend(spreads());
     all.extend(damages(&all));
     let mut text = "# Calls on the images, each on the image as it stands in its file: image, call, argument, number, value, and every word that\n\
          # has changed, as index=hex. Counts are written flow:count. The argument of busy is the floor and how many words are lent for\n\

@@ -13,32 +13,37 @@ enum { SLOT, LIMITS, IMAGE, CALL_KINDS };
 static const char *const names[CALL_KINDS] = {"slot", "limits", "image"};
 
 typedef struct {
-    wall_answer (*slot)(uint64_t, uint64_t);
+    wall_answer (*slot)(uint64_t, uint64_t, uint64_t);
     wall_answer (*limits)(uint64_t, uint64_t);
     wall_answer (*image)(const uint8_t *, size_t, uint64_t);
 } calls;
 
 #define UNUSED __attribute__((unused))
 
-static wall_answer no_numbers(uint64_t one UNUSED, uint64_t other UNUSED)
+static wall_answer no_slot(uint64_t bits UNUSED, uint64_t spread UNUSED, uint64_t flow UNUSED)
 {
     return (wall_answer){0, 0};
 }
 
-static wall_answer no_bytes(const uint8_t *at UNUSED, size_t n UNUSED, uint64_t word UNUSED)
+static wall_answer no_limits(uint64_t shape UNUSED, uint64_t width UNUSED)
+{
+    return (wall_answer){0, 0};
+}
+
+static wall_answer no_image(const uint8_t *at UNUSED, size_t n UNUSED, uint64_t word UNUSED)
 {
     return (wall_answer){0, 0};
 }
 
 static const calls measured = {wall_slot, wall_limits, wall_image};
-static const calls empty = {no_numbers, no_numbers, no_bytes};
+static const calls empty = {no_slot, no_limits, no_image};
 
 static const uint8_t bytes[] = {0, 1, 2, 3, 4, 5, 6, 7, 8, 9, 10, 11, 12, 13, 14, 15, 16};
 
 /* The call under way, and its arguments. */
 static const calls *volatile by;
 static unsigned kind;
-static uint64_t first, second;
+static uint64_t first, second, third;
 static volatile wall_answer came;
 
 static size_t most[CALL_KINDS];
@@ -47,7 +52,7 @@ static void make_call(void)
 {
     switch (kind) {
     case SLOT:
-        came = by->slot(first, second);
+        came = by->slot(first, second, third);
         break;
     case LIMITS:
         came = by->limits(first, second);
@@ -57,15 +62,16 @@ static void make_call(void)
     }
 }
 
-static void take(unsigned call, uint64_t one, uint64_t other, uint64_t number)
+static void take(unsigned call, uint64_t one, uint64_t other, uint64_t last, uint64_t number)
 {
-    kind = call, first = one, second = other;
+    kind = call, first = one, second = other, third = last;
     by = &empty;
     size_t bare = painted_depth(make_call);
     by = &measured;
     size_t took = painted_depth(make_call) - bare;
     if (came.number != number) {
-        fprintf(stderr, "stack: %s of %" PRIu64 ", %" PRIu64 ": expected %" PRIu64 ", came %" PRIu64 "\n", names[call], one, other, number, came.number);
+        fprintf(stderr, "stack: %s of %" PRIu64 ", %" PRIu64 ", %" PRIu64 ": expected %" PRIu64 ", came %" PRIu64 "\n", names[call], one, other, last,
+                number, came.number);
         exit(1);
     }
     if (took > most[call])
@@ -76,19 +82,24 @@ int main(void)
 {
     int over = 0;
     for (uint64_t bits = WALL_MIN_BITS; bits <= WALL_MAX_BITS; bits++) {
-        take(SLOT, bits, 0, WALL_DONE);
-        take(SLOT, bits, ((uint64_t)1 << bits) - 1, WALL_DONE);
-        take(SLOT, bits, (uint64_t)1 << bits, WALL_NO_FLOW);
+        const uint64_t flows = (uint64_t)1 << bits, spreads[] = {0, 1, flows - 1};
+        for (unsigned n = 0; n < sizeof spreads / sizeof *spreads; n++) {
+            take(SLOT, bits, spreads[n], 0, WALL_DONE);
+            take(SLOT, bits, spreads[n], flows - 1, WALL_DONE);
+            take(SLOT, bits, spreads[n], flows, WALL_NO_FLOW);
+        }
+        take(SLOT, bits, 2, 0, WALL_BAD_SPREAD);
+        take(SLOT, bits, flows + 1, 0, WALL_BAD_SPREAD);
     }
-    take(SLOT, WALL_MAX_BITS + 1, 0, WALL_BAD_BITS);
+    take(SLOT, WALL_MAX_BITS + 1, 0, 0, WALL_BAD_BITS);
     for (uint64_t shape = WALL_MIN_SHAPE; shape <= WALL_MAX_SHAPE; shape++)
         for (uint64_t width = 0; width <= WALL_MAX_WIDTH + 1; width++)
-            take(LIMITS, shape, width, width <= WALL_MAX_WIDTH ? WALL_DONE : WALL_BAD_WIDTH);
-    take(LIMITS, WALL_MAX_SHAPE + 1, 1, WALL_BAD_SHAPE);
-    take(IMAGE, sizeof bytes, 0, WALL_DONE);
-    take(IMAGE, sizeof bytes, 1, WALL_DONE);
-    take(IMAGE, sizeof bytes, 2, WALL_NO_WORD);
-    take(IMAGE, sizeof bytes, UINT64_MAX, WALL_NO_WORD);
+            take(LIMITS, shape, width, 0, width <= WALL_MAX_WIDTH ? WALL_DONE : WALL_BAD_WIDTH);
+    take(LIMITS, WALL_MAX_SHAPE + 1, 1, 0, WALL_BAD_SHAPE);
+    take(IMAGE, sizeof bytes, 0, 0, WALL_DONE);
+    take(IMAGE, sizeof bytes, 1, 0, WALL_DONE);
+    take(IMAGE, sizeof bytes, 2, 0, WALL_NO_WORD);
+    take(IMAGE, sizeof bytes, UINT64_MAX, 0, WALL_NO_WORD);
     for (unsigned call = 0; call < CALL_KINDS; call++) {
         printf("%-10s %8zu\n", names[call], most[call]);
         if (most[call] >= WALL_STACK) {

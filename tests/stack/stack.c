@@ -1,6 +1,7 @@
 /*
- * The stack of each call over a wall, beyond its return address. The walls are written word by word as docs/WALL.md has them. Prints the most bytes of each
- * call at each shape; the exit status is 1 where one reaches the line, or where a call does not answer what is expected of it.
+ * The stack of each call over a wall, beyond its return address. The walls are written word by word as docs/WALL.md has them, with spread 0 and with an odd
+ * one. Prints the most bytes of each call at each shape; the exit status is 1 where one reaches the line, or where a call does not answer what is expected
+ * of it.
  *
  * STORE is the prefix of the six calls.
  */
@@ -34,7 +35,7 @@ static const unsigned entries[SHAPES][4] = {{15, 3}, {25, 10, 2}, {25, 10, 3, 1}
 static const unsigned widths[SHAPES][4] = {{4, 13}, {2, 4, 12}, {2, 3, 4, 9}};
 
 typedef struct {
-    wall_answer (*raise)(uint64_t *, size_t, uint64_t, uint64_t, uint64_t, uint64_t, uint64_t);
+    wall_answer (*raise)(uint64_t *, size_t, uint64_t, uint64_t, uint64_t, uint64_t, uint64_t, uint64_t);
     wall_answer (*lookup)(const uint64_t *, size_t, uint64_t);
     wall_answer (*increment)(uint64_t *, size_t, uint64_t);
     wall_answer (*check)(const uint64_t *, size_t);
@@ -45,7 +46,7 @@ typedef struct {
 #define UNUSED __attribute__((unused))
 
 static wall_answer no_raise(uint64_t *w UNUSED, size_t n UNUSED, uint64_t s UNUSED, uint64_t d UNUSED, uint64_t b UNUSED, uint64_t m UNUSED,
-                            uint64_t j UNUSED)
+                            uint64_t j UNUSED, uint64_t spread_asked UNUSED)
 {
     return (wall_answer){0, 0};
 }
@@ -79,7 +80,7 @@ static const calls measured = {CALL(raise), CALL(lookup), CALL(increment), CALL(
 static const calls empty = {no_raise, no_lookup, no_increment, no_check, no_busy, no_close};
 
 /* The wall, the arguments of a raise, the list and the least count of a busy list, and the call under way. */
-static uint64_t words[MOST_WORDS], shape, width, bits, limit, full, flow, list[2 * FLOWS], listed_from;
+static uint64_t words[MOST_WORDS], shape, width, bits, limit, full, spread, flow, list[2 * FLOWS], listed_from;
 static size_t length, list_length;
 static const calls *volatile by;
 static unsigned kind;
@@ -91,7 +92,7 @@ static void make_call(void)
 {
     switch (kind) {
     case RAISE:
-        came = by->raise(words, length, shape, width, bits, limit, full);
+        came = by->raise(words, length, shape, width, bits, limit, full, spread);
         break;
     case LOOKUP:
         came = by->lookup(words, length, flow);
@@ -116,8 +117,9 @@ static size_t depth(const calls *calls_of)
     return painted_depth(make_call);
 }
 
-/* The wall's own shape and width: a refused raise has others in its arguments. */
+/* The wall's own shape, width and spread: a refused raise has others in its arguments. */
 static unsigned levels, first_width;
+static uint64_t own_spread;
 
 /* A call, which answers this number, and its stack, if it is the most yet. */
 static void take(unsigned call, uint64_t number)
@@ -125,7 +127,8 @@ static void take(unsigned call, uint64_t number)
     kind = call;
     size_t bare = depth(&empty), took = depth(&measured);
     if (came.number != number) {
-        fprintf(stderr, "stack: %s, shape %u, width %u: expected %" PRIu64 ", came %" PRIu64 "\n", names[call], levels, first_width, number, came.number);
+        fprintf(stderr, "stack: %s, shape %u, width %u, spread %" PRIu64 ": expected %" PRIu64 ", came %" PRIu64 "\n", names[call], levels, first_width,
+                own_spread, number, came.number);
         exit(1);
     }
     if (took - bare > most[call][levels - 3])
@@ -136,8 +139,8 @@ static void take_value(unsigned call, uint64_t value)
 {
     take(call, WALL_DONE);
     if (came.value != value) {
-        fprintf(stderr, "stack: %s, shape %u, width %u: expected the value %" PRIu64 ", came %" PRIu64 "\n", names[call], levels, first_width, value,
-                came.value);
+        fprintf(stderr, "stack: %s, shape %u, width %u, spread %" PRIu64 ": expected the value %" PRIu64 ", came %" PRIu64 "\n", names[call], levels,
+                first_width, own_spread, value, came.value);
         exit(1);
     }
 }
@@ -161,13 +164,22 @@ static uint64_t least(unsigned level)
     return ONE << begin;
 }
 
-/* The flow at a place of the bucket with the counts: its slot in reverse order. */
+/* By the bits in reverse order, or by the product. */
+static uint64_t slot_of(uint64_t of_flow)
+{
+    uint64_t reversed = 0;
+    for (unsigned bit = 0; bit < BITS; bit++)
+        reversed |= (of_flow >> bit & 1) << (BITS - 1 - bit);
+    return own_spread == 0 ? reversed : of_flow * own_spread % FLOWS;
+}
+
+/* The flow at a place of the bucket with the counts. */
 static uint64_t flow_at(unsigned place)
 {
-    uint64_t slot = BUCKET * PLACES + place, reversed = 0;
-    for (unsigned bit = 0; bit < BITS; bit++)
-        reversed |= (slot >> bit & 1) << (BITS - 1 - bit);
-    return reversed;
+    uint64_t at = 0;
+    while (slot_of(at) != BUCKET * PLACES + place)
+        at++;
+    return at;
 }
 
 static void raised(uint64_t of_full)
@@ -177,6 +189,7 @@ static void raised(uint64_t of_full)
     bits = BITS;
     limit = least(levels + 1) - 1;
     full = of_full;
+    spread = own_spread;
     length = WALL_WORDS(shape, width, bits, full);
     take(RAISE, WALL_DONE);
 }
@@ -229,6 +242,8 @@ static void raises(void)
     bits = 5, take(RAISE, WALL_BAD_BITS), bits = BITS;
     limit++, take(RAISE, WALL_BAD_LIMIT), limit--;
     full = BUCKETS + 1, take(RAISE, WALL_BAD_FULL), full = FULL;
+    spread = 2, take(RAISE, WALL_BAD_SPREAD), spread = own_spread;
+    spread = FLOWS + 1, take(RAISE, WALL_BAD_SPREAD), spread = own_spread;
     length--, take(RAISE, WALL_BAD_LENGTH), length++;
     raised(FULL);
 }
@@ -273,6 +288,10 @@ static void bad_headers_and_flows(void)
         take(CLOSE, WALL_BAD_HEADER);
         words[turn] = word;
     }
+    words[3] ^= ONE << 63; /* no spread has it */
+    all_refused(WALL_BAD_HEADER);
+    take(CLOSE, WALL_BAD_HEADER);
+    words[3] ^= ONE << 63;
     length--;
     all_refused(WALL_BAD_HEADER);
     take(CLOSE, WALL_BAD_HEADER);
@@ -335,8 +354,8 @@ static void overflow_of(unsigned level)
     all_at(OVERFLOWING, least(level) - 1);
     all_at(OVERFLOWING, least(level));
     all_at(0, least(level));
-    if (words[3] != (ONE << 16 | FULL)) {
-        fprintf(stderr, "stack: shape %u, width %u: no overflow into level %u\n", levels, first_width, level);
+    if (words[3] != (own_spread << 32 | ONE << 16 | FULL)) {
+        fprintf(stderr, "stack: shape %u, width %u, spread %" PRIu64 ": no overflow into level %u\n", levels, first_width, own_spread, level);
         exit(1);
     }
     for (unsigned place = 0; place < PLACES; place++) {
@@ -352,10 +371,11 @@ static void overflow_of(unsigned level)
     take(CLOSE, WALL_DONE);
 }
 
-static void walls_of(unsigned of_shape, unsigned of_width)
+static void walls_of(unsigned of_shape, unsigned of_width, uint64_t of_spread)
 {
     levels = of_shape;
     first_width = of_width;
+    own_spread = of_spread;
     raises();
     all_at(0, 0);
     bad_headers_and_flows();
@@ -369,11 +389,13 @@ static void walls_of(unsigned of_shape, unsigned of_width)
 int main(void)
 {
     size_t highest = 0, rows = 0;
-    for (unsigned of_shape = 3; of_shape <= WALL_MAX_SHAPE; of_shape++) {
-        walls_of(of_shape, 7);
-        walls_of(of_shape, 1);
-        walls_of(of_shape, WALL_MAX_WIDTH);
-    }
+    for (unsigned of_shape = 3; of_shape <= WALL_MAX_SHAPE; of_shape++)
+        for (unsigned turn = 0; turn < 2; turn++) {
+            uint64_t of_spread = turn == 0 ? 0 : 45;
+            walls_of(of_shape, 7, of_spread);
+            walls_of(of_shape, 1, of_spread);
+            walls_of(of_shape, WALL_MAX_WIDTH, of_spread);
+        }
     printf("%-10s %8s %8s %8s\n", "call", "shape 3", "shape 4", "shape 5");
     for (unsigned call = 0; call < CALL_KINDS; call++) {
         printf("%-10s %8zu %8zu %8zu\n", names[call], most[call][0], most[call][1], most[call][2]);

@@ -2,6 +2,7 @@ use answer::Answer;
 ghost use mathlib.Core.Path.{_≡_};
 ghost use Rattle.answer.specs.Answers.{listingOf, outcomeOf};
 ghost use Rattle.model.specs.Calls as model;
+ghost use Rattle.model.specs.Calls.{ask};
 ghost use Rattle.model.specs.BusyLists.{busy};
 
 // The calls over a wall for firmware in C; include/wall.h declares them beside those of the host.
@@ -14,10 +15,11 @@ pub extern "C" fn wall_raise(
     bits: u64,
     limit: u64,
     full: u64,
+    spread: u64,
 ) -> Answer
-    ensures { λ r. ⌜ outcomeOf r (now (words .exit)) ≡ model.raise shape width bits limit full (now (words .entry)) ⌝ }
+    ensures { λ r. ⌜ outcomeOf r (now (words .exit)) ≡ model.raise (ask shape width bits limit full spread) (now (words .entry)) ⌝ }
 {
-    fresh::raise(words, shape, width, bits, limit, full)
+    fresh::raise(words, shape, width, bits, limit, full, spread)
 }
 
 #[no_mangle]

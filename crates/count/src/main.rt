@@ -15,7 +15,7 @@ fn respond(input: &[u8], n: usize, out: &mut [u8]) -> usize
     ensures { λ r. ⌜ (r ≡ length (program (take n (now (input .entry))))) × (now (out .exit) ≡ program (take n (now (input .entry))) ++ drop r (now (out .entry))) × Counts r (now (out .exit)) ⌝ }
 {
     let mut words = [0u64; 74];
-    fresh::raise(&mut words, 3, 1, 6, 100, 1);
+    fresh::raise(&mut words, 3, 1, 6, 100, 1, 0);
     lines::lines(&input[..n], &mut words, out)
 }
 

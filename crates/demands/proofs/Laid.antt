@@ -13,7 +13,6 @@ use lib.Seq.{ext-getD}
 use Rattle.model.specs.Lists.{sum, oneIf, byMark, tabulate, pieces}
 use Rattle.model.specs.Packed.{pack, unpack, bit, rank, joinFields, cutFields}
 use Rattle.model.specs.Shapes.{Row, markWidths, bucketSize}
-use Rattle.model.specs.Slots.{slot}
 use Rattle.model.specs.Levels.{Level}
 use Rattle.model.specs.Walls.{Header, Bucket, Full, Wall, flows, bucketsIn, bucketLength, readHeader, readFull, parse, emptyBucket, emptyFull}
 use Rattle.model.specs.Sound.{upperMarks, flag, spareBits, fullNumber, packedWord, pairLevels, levelsOf, ownCounts, movedAt, fullCount, bucketCounts, soundPlace, bucketAt, ownAt, fullFor, countsAt, count, holdsNumber, holders, isEmptyFull}
@@ -22,8 +21,8 @@ use Rattle.model.proofs.Lists.{Below, below-take, below-at}
 use Rattle.model.proofs.Packing.{length-unpack, pack-unpack}
 use Rattle.model.proofs.Fields.{join-cut}
 use Rattle.model.proofs.Tools.{Each, and-tests, each-at, each-map}
-use Rattle.model.proofs.Headers.{Fine, flows-number}
-use Rattle.model.proofs.Slots.{slot-lt, slot-slot}
+use Rattle.model.proofs.Headers.{Fine, flows-number, flowAt}
+use Rattle.model.proofs.Slots.{slot-lt, undoing, slot-flow}
 use Rattle.model.proofs.Crowding.{T-true, T-false}
 use Rattle.model.proofs.Parsing.{Lengths, bucket-at, getD-in}
 use Rattle.model.proofs.Buckets.{SoundB, own-coded, length-own, counts-none, count-at, packed-goes, unpack-bit, flag-le}
@@ -153,10 +152,10 @@ module _ (v : Wall) (s : SoundWall v) (i : ℕ) (li : i < bucketsIn (v .header))
 
 module _ (v : Wall) (s : SoundWall v) where
   -- every place of a bucket is a flow's
-  count-slot : (i a : ℕ) → i < bucketsIn (v .header) → a < 64 → count v (slot (v .header .bits) (i * 64 + a)) ≡ getD (countsAt v i) a 0
+  count-slot : (i a : ℕ) → i < bucketsIn (v .header) → a < 64 → count v (flowAt (v .header) (i * 64 + a)) ≡ getD (countsAt v i) a 0
   unfolding count
   count-slot i a li la =
-      ap (λ x. getD (countsAt v (x / 64)) (x % 64) 0) (slot-slot (v .header .bits) (i * 64 + a) (omega (arith, flows-number (v .header .bits) (s .limits .bits-low))))
+      ap (λ x. getD (countsAt v (x / 64)) (x % 64) 0) (slot-flow (v .header .bits) (v .header .spread) (i * 64 + a) (s .limits .spread-valid) (omega (arith, flows-number (v .header .bits) (s .limits .bits-low))))
       ∙ ap₂ (λ k p. getD (countsAt v k) p 0) (high i a la) (low i a la)
     where
       high : (i a : ℕ) → a < 64 → (i * 64 + a) / 64 ≡ i
@@ -172,8 +171,8 @@ module _ (v u : Wall) (s : SoundWall v) (r : SoundWall u) (e : v .header ≡ u .
   pub counts-alike : (i : ℕ) → i < bucketsIn (v .header) → countsAt v i ≡ countsAt u i
   counts-alike i li = ext-getD 0 (countsAt v i) (countsAt u i) (length-countsAt v i ∙ sym (length-countsAt u i)) (λ a h.
       let la : a < 64 = subst (λ n. a < n) (length-countsAt v i) h in
-      sym (count-slot v s i a li la) ∙ c (slot (v .header .bits) (i * 64 + a)) (slot-lt (v .header .bits) (i * 64 + a))
-      ∙ ap (λ (h : Header). count u (slot (h .bits) (i * 64 + a))) e ∙ count-slot u r i a (in-both i li) la)
+      sym (count-slot v s i a li la) ∙ c (flowAt (v .header) (i * 64 + a)) (slot-lt (v .header .bits) (undoing (v .header .bits) (v .header .spread)) (i * 64 + a))
+      ∙ ap (λ (h : Header). count u (flowAt h (i * 64 + a))) e ∙ count-slot u r i a (in-both i li) la)
 
 -- ---- full-size buckets
 

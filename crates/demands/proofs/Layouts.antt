@@ -21,7 +21,7 @@ use Rattle.model.proofs.SoundWalls.{parse-header}
 use Rattle.model.proofs.Tools.{not-not}
 use Rattle.model.proofs.Parsing.{shaped-parse}
 use Rattle.model.proofs.Crowding.{T-false}
-use Rattle.model.proofs.Slots.{slot-bit, slot-slot}
+use Rattle.model.proofs.Slots.{reversed-bit, reversed-reversed}
 use Rattle.model.proofs.Headers.{Good, Limits, good-of, flows-number, bucket-lt}
 use Rattle.model.proofs.Growth.{Wide}
 use Rattle.model.proofs.Bridge.{bump-hold, room-crowded}
@@ -85,7 +85,7 @@ module _ (ws : List ℕ) (y : ℕ) (ok : Clear (bucketRefusals ws y)) (below-lim
   s = facts-of v i (not-not (soundAt v i) (ok .1 .1 .0))
 
   li : i < bucketsIn (v .header)
-  li = bucket-lt (v .header .bits) y (l .bits-low)
+  li = bucket-lt (v .header) y (l .bits-low)
 
   la : a < 64
   la = mod-lt (slotOf (v .header) y) (lit< tt)
@@ -134,8 +134,8 @@ pub layouts : Layouts
 layouts = record {
   grows = λ ws y ok l e. record { room = room ws y ok l e; carried = carried ws y ok l e };
   weighted = weighted;
-  reversed = slot-bit;
-  slot-back = slot-slot;
+  reversed = reversed-bit;
+  slot-back = reversed-reversed;
   buckets = λ h l. sym (flows-number (h .bits) l);
   shapes = (refl, refl, refl);
   counters = λ w. (omega arith, omega arith, omega arith);

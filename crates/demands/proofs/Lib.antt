@@ -7,3 +7,4 @@ pub mod Three
 pub mod Starts
 pub mod Totals
 pub mod BusyList
+pub mod Spreads

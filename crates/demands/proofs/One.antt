@@ -150,16 +150,16 @@ checked ws = record {
 pub demand-one : DemandOne
 unfolding slotCall limitsCall imageCall raise close lookup increment busy
 demand-one = record {
-  slot-call = λ b y. replied (slotRefusals b y) _ tt;
+  slot-call = λ b m y. replied (slotRefusals b m y) _ tt;
   limits-call = λ p w. replied (limitsRefusals p w) _ tt;
   image-call = λ bytes n. replied (imageRefusals bytes n) _ tt;
-  raise-call = λ p w b m j ws. answered (raiseRefusals p w b m j ws) _ _ ws tt;
+  raise-call = λ a ws. answered (raiseRefusals a ws) _ _ ws tt;
   close-call = λ ws. answered (closeRefusals ws) _ _ ws tt;
   lookup-call = λ ws y. answered (bucketRefusals ws y) _ _ ws tt;
   increment-call = λ ws y. answered (bucketRefusals ws y ++ stepRefusals (parse ws) y) _ _ ws tt;
   check-call = checked;
   busy-call = λ ws floor list. answered (busyRefusals ws floor list) _ _ list tt;
-  default = λ p b m j ws. (refl, refl);
+  default = λ p b m j s ws. (refl, refl);
   kept = lookup-words;
   eleven = never-eleven;
 }

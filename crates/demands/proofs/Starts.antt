@@ -20,6 +20,6 @@ fresh-reads h ws l y m =
 
 pub beginnings : Beginnings
 beginnings = record {
-  raised-reads = λ p w b m j ws e. fresh-reads (asked p w b m j) (raise p w b m j ws .words) (demand-three .raised p w b m j ws e);
+  raised-reads = λ a ws e. fresh-reads (asked a) (raise a ws .words) (demand-three .raised a ws e);
   closed-reads = λ ws e. fresh-reads (readHeader ws) (close ws .words) (demand-three .closed ws e);
 }

@@ -105,7 +105,7 @@ needed-is-crowded ws ok = needed-crowded (parse ws) (check-sound ws .0 ok .1)
 
 pub demand-three : DemandThree
 demand-three = record {
-  raised = λ p w b m j ws e. subst (Listed (asked p w b m j)) (sym (raised-words p w b m j ws e)) (fresh-listed (asked p w b m j) (raised-iff p w b m j ws .0 e .0) refl);
+  raised = λ a ws e. subst (Listed (asked a)) (sym (raised-words a ws e)) (fresh-listed (asked a) (raised-iff a ws .0 e .0) refl);
   closed = λ ws e. subst (Listed (readHeader ws)) (sym (closed-words ws e)) (fresh-listed (readHeader ws) (cleared (readHeader ws) (good-of ws (closed-iff ws .0 e) .limits)) refl);
   rearranged = relisted;
 }

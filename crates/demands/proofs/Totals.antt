@@ -51,7 +51,7 @@ module _ (v : Wall) (s : SoundWall v) where
   all-flows =
       let b : ℕ = v .header .bits in
       let f : ℕ → ℕ = λ s. getD (countsAt v (s / 64)) (s % 64) 0 in
-      sum-slots v (λ n. n) ∙ ap (λ n. sum (tabulate n f)) (flows-number b (s .limits .bits-low)) ∙ sum-blocks 64 (2 ^ (b - 6)) f
+      sum-slots v (s .limits .spread-valid) (λ n. n) ∙ ap (λ n. sum (tabulate n f)) (flows-number b (s .limits .bits-low)) ∙ sum-blocks 64 (2 ^ (b - 6)) f
       ∙ ap sum (tab-ext (2 ^ (b - 6)) (λ i. sum (tabulate 64 (λ a. f (i * 64 + a)))) (λ i. sum (countsAt v i)) (λ i l. bucket i)) ∙ s .sums
     where
       at : (i a : ℕ) → a < 64 → getD (countsAt v ((i * 64 + a) / 64)) ((i * 64 + a) % 64) 0 ≡ getD (countsAt v i) a 0

@@ -9,7 +9,7 @@ use Rattle.model.specs.Levels.{crowded}
 use Rattle.model.specs.Walls.{Header, flows, bucketsIn, withTotals, readHeader, parse}
 use Rattle.model.specs.Sound.{flag, bucketAt, countsAt, count}
 use Rattle.model.specs.Need.{Needed}
-use Rattle.model.specs.Calls.{asked, raise, close, increment}
+use Rattle.model.specs.Calls.{Ask, asked, raise, close, increment}
 use Rattle.model.specs.Runs.{run, listed, slots, tallies, crowdedBuckets}
 use Rattle.demands.specs.DemandTwo.{Accepted}
 
@@ -67,7 +67,7 @@ pub record Listed (h : Header) (ws : List ℕ) : Type 0 where
   pub next : (ys : List ℕ) → Flows (flows h) ys → run ws ys .number ≡ 0 → (y : ℕ) → y < flows h → Next (length ys) (h .limit) (crowdedBuckets h (y ∷ ys)) (h .full) (increment (run ws ys .words) y .number)
 
 pub record DemandThree : Type 0 where
-  pub raised : (p w b m j : ℕ) (ws : List ℕ) → raise p w b m j ws .number ≡ 0 → Listed (asked p w b m j) (raise p w b m j ws .words)
+  pub raised : (a : Ask) (ws : List ℕ) → raise a ws .number ≡ 0 → Listed (asked a) (raise a ws .words)
   pub closed : (ws : List ℕ) → close ws .number ≡ 0 → Listed (readHeader ws) (close ws .words)
   -- a rearrangement lists each flow equally often
   pub rearranged : (xs ys : List ℕ) → Rearranged xs ys → (y : ℕ) → listed y xs ≡ listed y ys

@@ -49,9 +49,9 @@ pub record Layouts : Type 0 where
   pub grows : (ws : List ℕ) (y : ℕ) → Clear (bucketRefusals ws y) → parse ws .header .total < parse ws .header .limit → flag (bucketAt (parse ws) (bucketFor ws y)) ≡ 0 → Grows ws y
   -- a bucket's own count is the sum of the parts of its p levels, each weighted by the bits below its level
   pub weighted : (ws : List ℕ) (i a : ℕ) → a < 64 → getD (ownAt (parse ws) i) a 0 ≡ sum (tabulate (suc (length (parse ws .header .rows))) (λ d. part (parse ws) i a d * 2 ^ below (parse ws) d))
-  -- the slot of a flow is its b bits in reverse order, and the slot of its slot is the flow
-  pub reversed : (b y k : ℕ) → k < b → bit (slot b y) k ≡ bit y (b - 1 - k)
-  pub slot-back : (b y : ℕ) → y < 2 ^ b → slot b (slot b y) ≡ y
+  -- the slot of a flow at spread 0 is its b bits in reverse order, and the slot of its slot is the flow
+  pub reversed : (b y k : ℕ) → k < b → bit (slot b 0 y) k ≡ bit y (b - 1 - k)
+  pub slot-back : (b y : ℕ) → y < 2 ^ b → slot b 0 (slot b 0 y) ≡ y
   -- h = N / 64, and a shape has as many levels as its number
   pub buckets : (h : Header) → 6 ≤ h .bits → bucketsIn h * 64 ≡ flows h
   pub shapes : (suc (length (rowsOf 3)) ≡ 3) × (suc (length (rowsOf 4)) ≡ 4) × (suc (length (rowsOf 5)) ≡ 5)

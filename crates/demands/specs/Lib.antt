@@ -4,3 +4,4 @@ pub mod DemandTwo
 pub mod DemandThree
 pub mod Beginnings
 pub mod BusyList
+pub mod Spreads

@@ -1,17 +1,17 @@
--- The document's edges P1 to P10, together, and those of the busy list. Shape 3, w1 1, b 6, M 100, J 0 unless said.
+-- The document's edges P1 to P10, together, and those of the busy list. Shape 3, w1 1, b 6, M 100, J 0, spread 0 unless said.
 use mathlib.Core.Path.{_≡_}
 use mathlib.Core.List.{List, [], _∷_, _++_}
 use Prim.Native.Nat.{ℕ, _+_, _^_, _/_, _%_}
 use lib.ListN.{replicate, getD, set}
 use Rattle.model.specs.Lists.{tabulate}
 use Rattle.model.specs.Slots.{slot}
-use Rattle.model.specs.Calls.{Outcome, lookup, increment, check, raise}
+use Rattle.model.specs.Calls.{Outcome, lookup, increment, check, ask, raise}
 use Rattle.model.specs.Runs.{run}
 use Rattle.model.specs.BusyLists.{Listing, busy}
 
 -- a fresh wall with the limit m and j full-size buckets, in n words
 abbrev pub new : ℕ → ℕ → ℕ → List ℕ
-new m j n = raise 3 1 6 m j (replicate n 0) .words
+new m j n = raise (ask 3 1 6 m j 0) (replicate n 0) .words
 
 -- flow y, n times
 abbrev pub times : ℕ → ℕ → List ℕ
@@ -46,12 +46,12 @@ abbrev pub listed : Listing → List ℕ
 listed r = r .number ∷ r .value ∷ r .list
 
 pub record Edges : Type 0 where
-  pub p1 : said (raise 3 1 6 100 0 (replicate 9 0)) ≡ 0 ∷ 0 ∷ []
+  pub p1 : said (raise (ask 3 1 6 100 0 0) (replicate 9 0)) ≡ 0 ∷ 0 ∷ []
   pub p1-word : getD (new 100 0 9) 0 0 ≡ 0x06010300014C5742
-  pub p1-short : said (raise 3 1 6 100 0 (replicate 8 0)) ≡ 6 ∷ 0 ∷ []
-  pub p1-long : said (raise 3 1 6 100 0 (replicate 10 0)) ≡ 6 ∷ 0 ∷ []
-  pub p2 : slot 6 0 ∷ slot 6 1 ∷ slot 6 2 ∷ slot 6 3 ∷ slot 6 63 ∷ [] ≡ 0 ∷ 32 ∷ 16 ∷ 48 ∷ 63 ∷ []
-  pub p3 : slot 9 1 ∷ slot 9 1 / 64 ∷ slot 9 1 % 64 ∷ slot 9 8 ∷ [] ≡ 256 ∷ 4 ∷ 0 ∷ 32 ∷ []
+  pub p1-short : said (raise (ask 3 1 6 100 0 0) (replicate 8 0)) ≡ 6 ∷ 0 ∷ []
+  pub p1-long : said (raise (ask 3 1 6 100 0 0) (replicate 10 0)) ≡ 6 ∷ 0 ∷ []
+  pub p2 : slot 6 0 0 ∷ slot 6 0 1 ∷ slot 6 0 2 ∷ slot 6 0 3 ∷ slot 6 0 63 ∷ [] ≡ 0 ∷ 32 ∷ 16 ∷ 48 ∷ 63 ∷ []
+  pub p3 : slot 9 0 1 ∷ slot 9 0 1 / 64 ∷ slot 9 0 1 % 64 ∷ slot 9 0 8 ∷ [] ≡ 256 ∷ 4 ∷ 0 ∷ 32 ∷ []
   pub p4 : bucket (run (new 100 0 9) (times 2 1) .words) ≡ 0 ∷ 2 ^ 32 ∷ 1 ∷ 0 ∷ 0 ∷ []
   pub p5 : bucket (run (new 100 0 9) (times 2 1 ++ times 2 2) .words) ≡ 0 ∷ (2 ^ 16 + 2 ^ 32) ∷ 0x11 ∷ 0 ∷ 0 ∷ []
   pub p5-more : bucket (run (new 100 0 9) (times 2 1 ++ (times 2 2 ++ times 3 1)) .words) ≡ 2 ^ 32 ∷ (2 ^ 16 + 2 ^ 32) ∷ 0x21 ∷ 0 ∷ 0 ∷ []
@@ -74,8 +74,8 @@ pub record Edges : Type 0 where
   pub p9 : run (new 1 0 9) (times 1 1) .number ∷ said (increment (run (new 1 0 9) (times 1 1) .words) 1) ≡ 0 ∷ 10 ∷ 0 ∷ []
   pub p10 : said (increment (run (new 31 0 9) sixteen .words) 15) ≡ 10 ∷ 0 ∷ []
   pub sound : check (run (new 100 1 74) (sixteen ++ (15 ∷ [])) .words) .number ≡ 0
-  pub limit : raise 3 1 6 262143 0 (replicate 9 0) .number ∷ raise 3 1 6 262144 0 (replicate 9 0) .number ∷ [] ≡ 0 ∷ 4 ∷ []
-  pub full : raise 3 1 6 100 1 (replicate 74 0) .number ∷ raise 3 1 6 100 2 (replicate 139 0) .number ∷ [] ≡ 0 ∷ 5 ∷ []
+  pub limit : raise (ask 3 1 6 262143 0 0) (replicate 9 0) .number ∷ raise (ask 3 1 6 262144 0 0) (replicate 9 0) .number ∷ [] ≡ 0 ∷ 4 ∷ []
+  pub full : raise (ask 3 1 6 100 1 0) (replicate 74 0) .number ∷ raise (ask 3 1 6 100 2 0) (replicate 139 0) .number ∷ [] ≡ 0 ∷ 5 ∷ []
   pub flow : increment (new 100 0 9) 63 .number ∷ increment (new 100 0 9) 64 .number ∷ [] ≡ 0 ∷ 8 ∷ []
   -- the busy list of the wall after p8: flow 0 alone counts 3; the words that it needs, one fewer, and a floor above it
   pub busy-exact : listed (busy twoMoved 3 (7 ∷ 7 ∷ [])) ≡ 0 ∷ 1 ∷ 0 ∷ 3 ∷ []

@@ -1,1 +1,1 @@
-// The scope of work's edges, in one table, proved by computing. There is no code here.
+// The documents' edges, in tables, proved by computing. There is no code here.

@@ -10,11 +10,11 @@ use native.Mathlib.Nat.{mul-le-mul, mod-eq-of-lt}
 use lib.ListN.{length}
 use Rattle.model.specs.Lists.{choose}
 use Rattle.model.specs.Shapes.{knownShape, validWidth, rowsOf}
-use Rattle.model.specs.Slots.{knownBits}
+use Rattle.model.specs.Slots.{knownBits, validSpread}
 use Rattle.model.specs.Walls.{Header, headField, letters, version, wordAt, good, limits, limitFits, fullFits, bucketsIn, bucketLength, wallSize}
 use Rattle.model.proofs.Crowding.{T-true}
 use Rattle.model.proofs.Tools.{and-tests, tests-and}
-use Rattle.model.proofs.Headers.{Limits, limits-of, good-of, of-good, shape-bounds, rows-fine, eq-eqb}
+use Rattle.model.proofs.Headers.{Limits, limits-of, good-of, of-good, shape-bounds, rows-fine}
 use Rattle.model.proofs.Headers as model
 use Rattle.layout.specs.declared.Wall.{Wall}
 use Rattle.shapes.specs.Shapes.{shapeOf, Valid}
@@ -49,7 +49,7 @@ known-valid v k = table-shape (v .shape) (v .width) (k .shape-low) (k .shape-hig
 -- ---- the fields, as the code takes them from the words
 
 pub fields-words : (ws : List ℕ) → wordAt ws 0 < 2 ^ 64
-    → record { shape = wordAt ws 0 / 1099511627776 % 256; width = wordAt ws 0 / 281474976710656 % 256; bits = wordAt ws 0 / 72057594037927936; limit = wordAt ws 1; total = wordAt ws 2; full = wordAt ws 3 % 65536; used = wordAt ws 3 / 65536 % 65536; spare = wordAt ws 3 / 4294967296 } ≡ fieldsOf ws
+    → record { shape = wordAt ws 0 / 1099511627776 % 256; width = wordAt ws 0 / 281474976710656 % 256; bits = wordAt ws 0 / 72057594037927936; limit = wordAt ws 1; total = wordAt ws 2; full = wordAt ws 3 % 65536; used = wordAt ws 3 / 65536 % 65536; spread = wordAt ws 3 / 4294967296 } ≡ fieldsOf ws
 fields-words ws h =
     let a : wordAt ws 0 / 1099511627776 % 256 ≡ headField ws 2 = omega arith in
     let s : wordAt ws 0 / 2 ^ 24 / 2 ^ 16 / 2 ^ 8 ≡ wordAt ws 0 / 2 ^ 48 = ap (λ x. x / 2 ^ 8) (shr-shr (wordAt ws 0) 24 16) ∙ shr-shr (wordAt ws 0) 40 8 in
@@ -57,8 +57,8 @@ fields-words ws h =
     let b : wordAt ws 0 / 281474976710656 % 256 ≡ headField ws 3 = ap (λ x. x % 256) (sym s) in
     let d : wordAt ws 0 / 72057594037927936 ≡ headField ws 4 = sym (mod-eq-of-lt (shr-lt 8 56 h)) ∙ ap (λ x. x % 256) (sym (ap (λ x. x / 2 ^ 8) s ∙ t)) in
     let e : wordAt ws 3 / 4294967296 ≡ wordAt ws 3 / 2 ^ 16 / 2 ^ 16 = omega arith in
-    ap₂ (λ x y. record { shape = x; width = y; bits = wordAt ws 0 / 72057594037927936; limit = wordAt ws 1; total = wordAt ws 2; full = wordAt ws 3 % 65536; used = wordAt ws 3 / 65536 % 65536; spare = wordAt ws 3 / 4294967296 }) a b
-    ∙ ap₂ (λ x y. record { shape = headField ws 2; width = headField ws 3; bits = x; limit = wordAt ws 1; total = wordAt ws 2; full = wordAt ws 3 % 65536; used = wordAt ws 3 / 65536 % 65536; spare = y }) d e
+    ap₂ (λ x y. record { shape = x; width = y; bits = wordAt ws 0 / 72057594037927936; limit = wordAt ws 1; total = wordAt ws 2; full = wordAt ws 3 % 65536; used = wordAt ws 3 / 65536 % 65536; spread = wordAt ws 3 / 4294967296 }) a b
+    ∙ ap₂ (λ x y. record { shape = headField ws 2; width = headField ws 3; bits = x; limit = wordAt ws 1; total = wordAt ws 2; full = wordAt ws 3 % 65536; used = wordAt ws 3 / 65536 % 65536; spread = y }) d e
 
 -- the mark of the first word is its letters and its version
 pub marked : (ws : List ℕ) → 4 ≤ length ws → wordAt ws 0 % 1099511627776 ≡ 21780290 → Marked ws
@@ -95,14 +95,14 @@ module _ (ws : List ℕ) (v : Wall) (e : v ≡ fieldsOf ws) where
   pub fails-length : (n : ℕ) → n ≡ wallSize (headerOf v) → (length ws ≡ n → ⊥) → Bad ≡ openedOf ws
   fails-length n f z = opened-bad ws (λ g. z (g .exact ∙ ap (λ (v : Wall). wallSize (headerOf v)) (sym e) ∙ sym f))
 
-  pub passes : Marked ws → Known v → T (limitFits (headerOf v)) → T (fullFits (headerOf v)) → v .total ≤ v .limit → v .used ≤ v .full → v .spare ≡ 0
+  pub passes : Marked ws → Known v → T (limitFits (headerOf v)) → T (fullFits (headerOf v)) → v .total ≤ v .limit → v .used ≤ v .full → T (validSpread (v .bits) (v .spread))
       → length ws ≡ wallSize (headerOf v) → Good v ≡ openedOf ws
-  passes m k t f total used spare exact =
+  passes m k t f total used spread exact =
       let s : T (knownShape (v .shape)) = tests-and (leb 3 (v .shape)) (leb (v .shape) 5) (le→leb 3 (v .shape) (k .shape-low)) (le→leb (v .shape) 5 (k .shape-high)) in
       let w : T (validWidth (v .width)) = tests-and (leb 1 (v .width)) (leb (v .width) 16) (le→leb 1 (v .width) (k .width-low)) (le→leb (v .width) 16 (k .width-high)) in
       let b : T (knownBits (v .bits)) = tests-and (leb 6 (v .bits)) (leb (v .bits) 22) (le→leb 6 (v .bits) (k .bits-low)) (le→leb (v .bits) 22 (k .bits-high)) in
       let l : Limits (headerOf v) = limits-of (headerOf v) (rows-fine (v .shape) s)
-      (s, (w, (b, (t, (f, (le→leb (v .total) (v .limit) total, (le→leb (v .used) (v .full) used, (eq-eqb spare, tt)))))))) in
+      (s, (w, (b, (t, (f, (le→leb (v .total) (v .limit) total, (le→leb (v .used) (v .full) used, (spread, tt)))))))) in
       ap Good e ∙ opened-good ws (record {
         long = m .long;
         marked = m .letters;
@@ -110,6 +110,9 @@ module _ (ws : List ℕ) (v : Wall) (e : v ≡ fieldsOf ws) where
         exact = exact ∙ ap (λ (v : Wall). wallSize (headerOf v)) e;
         limits = subst (λ (v : Wall). Limits (headerOf v)) e l;
       })
+
+pub spread-test : (h : Header) → Limits h → T (validSpread (h .bits) (h .spread))
+spread-test h l = l .spread-valid
 
 pub width-test : (h : Header) → Limits h → T (validWidth (h .width))
 width-test h l = tests-and (leb 1 (h .width)) (leb (h .width) 16) (le→leb 1 (h .width) (l .width-low)) (le→leb (h .width) 16 (l .width-high))

@@ -20,7 +20,7 @@ fieldsOf ws = record {
   total = wordAt ws 2;
   full = wordAt ws 3 % 2 ^ 16;
   used = wordAt ws 3 / 2 ^ 16 % 2 ^ 16;
-  spare = wordAt ws 3 / 2 ^ 16 / 2 ^ 16;
+  spread = wordAt ws 3 / 2 ^ 16 / 2 ^ 16;
 }
 
 -- shape, width and bits are within their limits

@@ -1,6 +1,6 @@
 use layout::Wall;
 ghost use mathlib.Core.Path.{_≡_};
-ghost use Prim.Native.Nat.{_+_, _-_, _*_, _≤_, _<_, _^_};
+ghost use Prim.Native.Nat.{_+_, _-_, _*_, _≤_, _<_};
 ghost use lib.ListN.{length};
 ghost use Rattle.model.specs.Walls.{bucketsIn, bucketLength, wallSize, limitFits, fullFits};
 ghost use Rattle.layout.specs.Views.{headerOf};
@@ -30,7 +30,7 @@ fn fields(words: &[u64]) -> Wall
         total: words[2],
         full: full % 65536,
         used: (full >> 16) % 65536,
-        spare: full >> 32,
+        spread: full >> 32,
     }
 }
 
@@ -118,7 +118,7 @@ fn open_sized(words: &[u64], v: Wall) -> Opened
     if v.full < v.used {
         return Opened::Bad;
     }
-    if v.spare != 0 {
+    if !spreads::valid(v.bits, v.spread) {
         return Opened::Bad;
     }
     if words.len() as u64 != size(v) {

@@ -6,10 +6,10 @@ ghost use Rattle.model.specs.Calls.{imageCall, limitsCall, slotCall};
 // The calls of the card's C host; include/wall.h declares them.
 
 #[no_mangle]
-pub extern "C" fn wall_slot(bits: u64, flow: u64) -> Answer
-    ensures { λ r. ⌜ replyOf r ≡ slotCall bits flow ⌝ }
+pub extern "C" fn wall_slot(bits: u64, spread: u64, flow: u64) -> Answer
+    ensures { λ r. ⌜ replyOf r ≡ slotCall bits spread flow ⌝ }
 {
-    slot::slot(bits, flow)
+    slot::slot(bits, spread, flow)
 }
 
 #[no_mangle]

@@ -53,7 +53,7 @@ pub fn increment(words: &mut [u64], flow: u64) -> Answer
     if packed::pow2(v.bits) <= flow {
         return Answer::refused(8);
     }
-    let s = reversal::reversed(v.bits, flow);
+    let s = spreads::slot_of(v.bits, v.spread, flow);
     let packed = found::packed_word(words, v, s / 64);
     if packed >> 40 == 0 {
         return one_more_plain(words, v, s / 64, s % 64);

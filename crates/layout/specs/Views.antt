@@ -13,5 +13,5 @@ headerOf v = record {
   total = v .total;
   full = v .full;
   used = v .used;
-  spare = v .spare;
+  spread = v .spread;
 }

@@ -18,7 +18,7 @@ pub struct Wall {
     pub total: u64,
     pub full: u64,
     pub used: u64,
-    pub spare: u64,
+    pub spread: u64,
 }
 
 impl Wall {

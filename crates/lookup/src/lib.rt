@@ -15,7 +15,7 @@ pub fn lookup(words: &[u64], flow: u64) -> Answer
     if packed::pow2(v.bits) <= flow {
         return Answer::refused(8);
     }
-    let s = reversal::reversed(v.bits, flow);
+    let s = spreads::slot_of(v.bits, v.spread, flow);
     let Judged::Sound(count) = found::read(words, v, s / 64, s % 64) else {
         return Answer::refused(9);
     };

@@ -5,16 +5,17 @@ use mathlib.Core.List.{List, [], _∷_}
 use Prim.Native.Nat.{ℕ, zero, suc, _+_, _*_, _/_, _%_, _^_, _≤_, _<_}
 use native.Mathlib.Nat.{zero-add, add-zero}
 use native.Mathlib.Omega.{arith}
-use lib.Dec.{leb, ltb, lit<, lt→ltb}
+use lib.Dec.{T, leb, ltb, lit<, lt→ltb}
 use lib.Arith.{le→nltb}
 use lib.ListN.{length, getD}
 use Rattle.model.specs.Lists.{oneIf, choose, sum, tabulate}
-use Rattle.model.specs.Slots.{slot}
-use Rattle.model.specs.Walls.{Wall, flows, parse}
+use Rattle.model.specs.Slots.{validSpread}
+use Rattle.model.specs.Walls.{Wall, flows, slotOf, parse}
 use Rattle.model.specs.Sound.{countsAt, count}
 use Rattle.model.specs.Calls.{Refusal, refuse, firstMet, outcome, check, checkRefusals}
 use Rattle.model.specs.BusyLists.{busyFrom, busyFlows, entries, written, busyRefusals, listing, busy}
-use Rattle.model.proofs.Slots.{slot-lt, slot-slot}
+use Rattle.model.proofs.Slots.{slot-lt, undoing, flow-slot, slot-flow}
+use Rattle.model.proofs.Headers.{flowAt}
 use Rattle.model.proofs.Sums.{sum-moved}
 use Rattle.model.proofs.Refusals.{first-clear, first-skip, first-stays, first-met, answer-done, answer-refused}
 use Rattle.model.proofs.SoundWalls.{check-clear, check-number}
@@ -36,16 +37,16 @@ pub length-busy : (v : Wall) (floor : ℕ) → length (busyFlows v floor) ≡ su
 length-busy v floor = length-from (count v) floor 0 (flows (v .header)) (count v) (λ i. ap (count v) (zero-add i))
 
 -- a sum over the counts of all flows, taken by slots
-pub sum-slots : (v : Wall) (f : ℕ → ℕ) → sum (tabulate (flows (v .header)) (λ y. f (count v y))) ≡ sum (tabulate (flows (v .header)) (λ s. f (getD (countsAt v (s / 64)) (s % 64) 0)))
+pub sum-slots : (v : Wall) → T (validSpread (v .header .bits) (v .header .spread)) → (f : ℕ → ℕ) → sum (tabulate (flows (v .header)) (λ y. f (count v y))) ≡ sum (tabulate (flows (v .header)) (λ s. f (getD (countsAt v (s / 64)) (s % 64) 0)))
 unfolding count
-sum-slots v f =
+sum-slots v t f =
     let b : ℕ = v .header .bits in
-    let back : (y : ℕ) → y < 2 ^ b → (slot b y < 2 ^ b) × (slot b (slot b y) ≡ y) = λ y l. (slot-lt b y, slot-slot b y l) in
-    sum-moved (2 ^ b) (slot b) (slot b) back back (λ s. f (getD (countsAt v (s / 64)) (s % 64) 0))
+    let m : ℕ = v .header .spread in
+    sum-moved (2 ^ b) (slotOf (v .header)) (flowAt (v .header)) (λ y l. (slot-lt b m y, flow-slot b m y t l)) (λ s l. (slot-lt b (undoing b m) s, slot-flow b m s t l)) (λ s. f (getD (countsAt v (s / 64)) (s % 64) 0))
 
 -- how many flows are listed, counted by slots
-pub busy-slots : (v : Wall) (floor : ℕ) → length (busyFlows v floor) ≡ sum (tabulate (flows (v .header)) (λ s. oneIf (leb floor (getD (countsAt v (s / 64)) (s % 64) 0))))
-busy-slots v floor = length-busy v floor ∙ sum-slots v (λ n. oneIf (leb floor n))
+pub busy-slots : (v : Wall) → T (validSpread (v .header .bits) (v .header .spread)) → (floor : ℕ) → length (busyFlows v floor) ≡ sum (tabulate (flows (v .header)) (λ s. oneIf (leb floor (getD (countsAt v (s / 64)) (s % 64) 0))))
+busy-slots v t floor = length-busy v floor ∙ sum-slots v t (λ n. oneIf (leb floor n))
 
 pub length-entries : (c : ℕ → ℕ) (ys : List ℕ) → length (entries c ys) ≡ 2 * length ys
 length-entries c [] = refl

@@ -3,7 +3,7 @@ use mathlib.Core.Logic.{_≢_}
 use mathlib.Core.Path.{_≡_, refl, sym, ap, _∙_, subst, subst₂}
 use mathlib.Core.Bool.{true, false, not, _&&_}
 use mathlib.Core.List.{List, _++_, map}
-use Prim.Native.Nat.{ℕ, _+_, _*_, _/_, _%_, _≤_, _<_}
+use Prim.Native.Nat.{ℕ, _+_, _*_, _≤_, _<_}
 use native.Mathlib.Nat.{le-refl, mod-lt}
 use native.Mathlib.Omega.{arith}
 use lib.Dec.{T, eqb, nleb→lt, eqb-refl, lit<, T-not}
@@ -12,8 +12,7 @@ use lib.ListN.{length, getD, length-append, length-map}
 use lib.Seq.{getD-set-same, getD-set-other}
 use Rattle.model.specs.Lists.{oneIf, byMark, concat}
 use Rattle.model.specs.Shapes.{rowsOf}
-use Rattle.model.specs.Slots.{slot}
-use Rattle.model.specs.Walls.{Header, Wall, bucketsIn, flows, wallSize, bucketWords, fullWords, readHeader, flatten, parse, withTotals, bucketOf, placeOf}
+use Rattle.model.specs.Walls.{Header, Wall, bucketsIn, flows, wallSize, bucketWords, fullWords, readHeader, flatten, parse, withTotals, slotOf, bucketOf, placeOf}
 use Rattle.model.specs.Sound.{flag, bucketAt, fullFor, countsAt, count}
 use Rattle.model.specs.Calls.{Clear, Outcome, firstMet, noRoom, overflows, bucketRefusals, stepRefusals, raisedBy, lookup, increment, check}
 use Rattle.model.specs.After.{ownAfter, fullAfter}
@@ -80,10 +79,10 @@ module _ (v : Wall) (y : ℕ) (s : SoundWall v) where
   a = placeOf (v .header) y
 
   in-wall : i < bucketsIn (v .header)
-  in-wall = bucket-lt (v .header .bits) y (s .limits .bits-low)
+  in-wall = bucket-lt (v .header) y (s .limits .bits-low)
 
   in-bucket : a < 64
-  in-bucket = mod-lt (slot (v .header .bits) y) (lit< tt)
+  in-bucket = mod-lt (slotOf (v .header) y) (lit< tt)
 
   -- refusals 10 and 12 are not met for d more
   pub record Free (d : ℕ) : Type 0 where
@@ -106,28 +105,25 @@ module _ (v : Wall) (y : ℕ) (s : SoundWall v) where
 
 -- ---- the counts, by flow
 
-module _ (v v′ : Wall) (y d : ℕ) (t : Stepped v (bucketOf (v .header) y) (placeOf (v .header) y) d v′) (low : 6 ≤ v .header .bits) where
-  same-bits : v′ .header .bits ≡ v .header .bits
-  same-bits = ap (λ (h : Header). h .bits) (t .header)
-
+module _ (v v′ : Wall) (y d : ℕ) (t : Stepped v (bucketOf (v .header) y) (placeOf (v .header) y) d v′) (l : Limits (v .header)) where
   reread : (z : ℕ) → count v′ z ≡ getD (countsAt v′ (bucketOf (v .header) z)) (placeOf (v .header) z) 0
   unfolding count
-  reread z = ap (λ b. getD (countsAt v′ (slot b z / 64)) (slot b z % 64) 0) same-bits
+  reread z = ap (λ h. getD (countsAt v′ (bucketOf h z)) (placeOf h z) 0) (t .header)
 
   pub count-here : count v′ y ≡ count v y + d
   unfolding count
   count-here =
       reread y ∙ ap (λ l. getD l (placeOf (v .header) y) 0) (t .here)
-      ∙ getD-set-same (countsAt v (bucketOf (v .header) y)) (placeOf (v .header) y) (count v y + d) 0 (subst (λ n. placeOf (v .header) y < n) (sym (length-countsAt v (bucketOf (v .header) y))) (mod-lt (slot (v .header .bits) y) (lit< tt)))
+      ∙ getD-set-same (countsAt v (bucketOf (v .header) y)) (placeOf (v .header) y) (count v y + d) 0 (subst (λ n. placeOf (v .header) y < n) (sym (length-countsAt v (bucketOf (v .header) y))) (mod-lt (slotOf (v .header) y) (lit< tt)))
 
   pub count-there : (z : ℕ) → y < flows (v .header) → z < flows (v .header) → z ≢ y → count v′ z ≡ count v z
   unfolding count
   count-there z hy hz n = reread z ∙ by-eq (bucketOf (v .header) z) (bucketOf (v .header) y)
       (λ e. ap (λ k. getD (countsAt v′ k) (placeOf (v .header) z) 0) e ∙ ap (λ l. getD l (placeOf (v .header) z) 0) (t .here)
       ∙ getD-set-other (countsAt v (bucketOf (v .header) y)) (placeOf (v .header) y) (placeOf (v .header) z) (count v y + d) 0
-      (λ p. n (slot-inj (v .header .bits) z y hz hy (omega arith)))
+      (λ p. n (slot-inj (v .header .bits) (v .header .spread) (l .spread-valid) z y hz hy (omega arith)))
       ∙ sym (ap (λ k. getD (countsAt v k) (placeOf (v .header) z) 0) e))
-      (λ e. ap (λ l. getD l (placeOf (v .header) z) 0) (t .there (bucketOf (v .header) z) (bucket-lt (v .header .bits) z low) e))
+      (λ e. ap (λ l. getD l (placeOf (v .header) z) 0) (t .there (bucketOf (v .header) z) (bucket-lt (v .header) z (l .bits-low)) e))
 
 -- ---- demand 2
 
@@ -181,8 +177,8 @@ raises-by ws y d s p l f =
       accepted = accepted-flatten v (t .sound) b;
       value = refl;
       header = ap (λ (v : Wall). v .header) q ∙ t .header ∙ ap (λ (v : Wall). withTotals (parse ws .header) (parse ws .header .total + d) (v .header .used)) (sym q);
-      here = ap (λ v. count v y) q ∙ count-here (parse ws) v y d t (s .limits .bits-low);
-      there = λ z h n. ap (λ v. count v z) q ∙ count-there (parse ws) v y d t (s .limits .bits-low) z l h n;
+      here = ap (λ v. count v y) q ∙ count-here (parse ws) v y d t (s .limits);
+      there = λ z h n. ap (λ v. count v z) q ∙ count-there (parse ws) v y d t (s .limits) z l h n;
       used = ap (λ (v : Wall). v .header .used) q ∙ t .used;
       own = ap (λ (v : Wall). bucketAt v (bucketOf (parse ws .header) y)) q ∙ t .own .0;
       own-full = ap (λ (v : Wall). fullFor v (bucketOf (parse ws .header) y)) q ∙ t .own .1;
@@ -199,7 +195,7 @@ increment-raises ws y ok e =
 pub own-clear : (ws : List ℕ) (y : ℕ) → Accepted ws → y < flows (parse ws .header) → Clear (bucketRefusals ws y)
 own-clear ws y ok h =
     let a = check-sound ws .0 ok in
-    meets-none ws y (of-good ws (a .0)) h (each-sound ws ok (bucketOf (parse ws .header) y) (bucket-lt (parse ws .header .bits) y (a .1 .limits .bits-low)))
+    meets-none ws y (of-good ws (a .0)) h (each-sound ws ok (bucketOf (parse ws .header) y) (bucket-lt (parse ws .header) y (a .1 .limits .bits-low)))
 
 pub lookup-count : (ws : List ℕ) (y : ℕ) → Accepted ws → y < flows (parse ws .header) → lookup ws y ≡ record { number = 0; value = count (parse ws) y; words = ws }
 unfolding lookup

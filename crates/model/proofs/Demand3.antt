@@ -1,8 +1,8 @@
 -- Demand 3: a fresh wall and a list of flows. What is accepted, and what is held then, is said of the list alone, whatever its order.
 use mathlib.Core.Logic.{_↔_}
 use mathlib.Core.Path.{_≡_, refl, sym, ap, ap₂, _∙_, subst}
-use mathlib.Core.List.{List, [], _∷_, map, reverseAux}
-use Prim.Native.Nat.{ℕ, zero, suc, _+_, _*_, _/_, _%_, _^_, _≤_, _<_}
+use mathlib.Core.List.{List, [], _∷_, reverseAux}
+use Prim.Native.Nat.{ℕ, zero, suc, _+_, _*_, _/_, _%_, _≤_, _<_}
 use native.Mathlib.Nat.{le-refl, mod-lt}
 use native.Mathlib.Decide.{decLt}
 use native.Mathlib.Omega.{arith}
@@ -11,17 +11,17 @@ use lib.Arith.{le→nltb}
 use lib.ListN.{length, getD, length-map}
 use Rattle.model.specs.Lists.{sum, oneIf, byMark}
 use Rattle.model.specs.Levels.{crowded}
-use Rattle.model.specs.Slots.{slot}
-use Rattle.model.specs.Walls.{Header, Wall, bucketsIn, flows, parse, withTotals, fresh}
+use Rattle.model.specs.Slots.{validSpread}
+use Rattle.model.specs.Walls.{Header, Wall, bucketsIn, flows, slotOf, bucketOf, placeOf, parse, withTotals, fresh}
 use Rattle.model.specs.Sound.{flag, bucketAt, countsAt, count}
 use Rattle.model.specs.Calls.{Outcome, Refusal, refuse, firstMet, bucketRefusals, raisedBy, increment}
 use Rattle.model.specs.Runs.{listed, run, tallies, crowdedAfter, slots, crowdedBuckets}
 use Rattle.model.proofs.Lists.{Below, getD-tab}
 use Rattle.model.proofs.Crowding.{T-true}
 use Rattle.model.proofs.Order.{Throughout, Within, accepted-within, crowdedOf-listed, sum-listed, whole-length, whole-listed, crowded-zero}
-use Rattle.model.proofs.Slots.{slot-lt, slot-slot, slot-inj}
+use Rattle.model.proofs.Slots.{slot-lt, slot-inj, undoing, slot-flow}
 use Rattle.model.proofs.Tools.{by-eq}
-use Rattle.model.proofs.Headers.{Limits, bucket-lt}
+use Rattle.model.proofs.Headers.{Limits, bucket-lt, flowAt}
 use Rattle.model.proofs.Sums.{tab-ext}
 use Rattle.model.specs.Need.{Needed}
 use Rattle.model.proofs.Steps.{eqb-false}
@@ -48,22 +48,22 @@ module _ (h : Header) (xs ws : List ℕ) (o : On h xs ws) (y : ℕ) (ly : y < fl
   flow-of : y < flows g
   flow-of = subst (λ (k : Header). y < flows k) (sym (o .reached .header)) ly
 
-  pub next-number : increment ws y .number ≡ firstMet (nextRefusals h (slot (h .bits) y) xs)
+  pub next-number : increment ws y .number ≡ firstMet (nextRefusals h (slotOf h y) xs)
   next-number =
       eleven-drops ws y ∙ first-skip (bucketRefusals ws y) (stepAlone (parse ws) y) (own-clear ws y (o .accepted) flow-of)
       ∙ ap₂ (λ p q. firstMet (refuse 10 p ∷ refuse 12 q ∷ []))
       (ap (λ (k : Header). eqb (k .total) (k .limit)) (o .reached .header))
       (reached-crowds h xs (parse ws) (o .reached) y 1)
 
-  pub next-on : increment ws y .number ≡ 0 → On h (slot (h .bits) y ∷ xs) (increment ws y .words)
+  pub next-on : increment ws y .number ≡ 0 → On h (slotOf h y ∷ xs) (increment ws y .words)
   next-on e =
       let f = follows ws y e in
       let r = reached-next h xs (parse ws) (o .reached) y 1 (le-refl 1) (f .free (o .reached .sound)) in
       let k : Tabled h = subst Tabled (o .reached .header) (tabled-parse ws) in
       let b : Tabled (raisedBy (parse ws) y 1 .header) = subst Tabled (sym (r .header)) k in
-      subst (λ (a : Outcome). On h (slot (h .bits) y ∷ xs) (a .words)) (sym (f .same)) (record {
+      subst (λ (a : Outcome). On h (slotOf h y ∷ xs) (a .words)) (sym (f .same)) (record {
         accepted = accepted-flatten (raisedBy (parse ws) y 1) (r .sound) b;
-        reached = subst (Reached h (slot (h .bits) y ∷ xs)) (sym (reparsed (raisedBy (parse ws) y 1) (r .sound) b)) r;
+        reached = subst (Reached h (slotOf h y ∷ xs)) (sym (reparsed (raisedBy (parse ws) y 1) (r .sound) b)) r;
       })
 
   so-far : length xs ≤ h .limit
@@ -72,16 +72,16 @@ module _ (h : Header) (xs ws : List ℕ) (o : On h xs ws) (y : ℕ) (ly : y < fl
   abbrev Room : List ℕ → Type 0
   Room l = Within 64 (bucketsIn h) (h .width) (h .rows) (h .limit) (h .full) l
 
-  pub next-within : (increment ws y .number ≡ 0) ↔ Room (slot (h .bits) y ∷ xs)
+  pub next-within : (increment ws y .number ≡ 0) ↔ Room (slotOf h y ∷ xs)
   next-within = (
     (λ e.
-        let c = clear-first (nextRefusals h (slot (h .bits) y) xs) (lit< tt, (lit< tt, tt)) (sym next-number ∙ e) in (
+        let c = clear-first (nextRefusals h (slotOf h y) xs) (lit< tt, (lit< tt, tt)) (sym next-number ∙ e) in (
           by-eq (length xs) (h .limit)
               (λ q. absurd (T-not (eqb (length xs) (h .limit)) (c .0) (subst (λ n. T (eqb (length xs) n)) q (eqb-refl (length xs)))))
               (λ q. omega (arith, so-far)),
-          nltb→le (h .full) (crowdedAfter h (slot (h .bits) y ∷ xs)) (c .1 .0),
+          nltb→le (h .full) (crowdedAfter h (slotOf h y ∷ xs)) (c .1 .0),
         )),
-    (λ w. next-number ∙ first-clear (nextRefusals h (slot (h .bits) y) xs) (eqb-not (length xs) (h .limit) (w .0), (le→nltb (h .full) (crowdedAfter h (slot (h .bits) y ∷ xs)) (w .1), tt))),
+    (λ w. next-number ∙ first-clear (nextRefusals h (slotOf h y) xs) (eqb-not (length xs) (h .limit) (w .0), (le→nltb (h .full) (crowdedAfter h (slotOf h y ∷ xs)) (w .1), tt))),
   )
 
 -- ---- a run
@@ -106,14 +106,14 @@ module _ (h : Header) where
   run-allowed [] xs ws o b e = tt
   run-allowed (y ∷ ys) xs ws o b e =
       let z = run-first ws y ys e in
-      (next-within h xs ws o y (b .0) .0 z, run-allowed ys (slot (h .bits) y ∷ xs) (increment ws y .words) (next-on h xs ws o y (b .0) z) (b .1) (sym (ap (λ (a : Outcome). a .number) (run-on ws y ys z)) ∙ e))
+      (next-within h xs ws o y (b .0) .0 z, run-allowed ys (slotOf h y ∷ xs) (increment ws y .words) (next-on h xs ws o y (b .0) z) (b .1) (sym (ap (λ (a : Outcome). a .number) (run-on ws y ys z)) ∙ e))
 
   pub allowed-run : (ys xs ws : List ℕ) → On h xs ws → Below (flows h) ys → Throughout Fit xs (slots h ys) → run ws ys .number ≡ 0
   unfolding run
   allowed-run [] xs ws o b t = refl
   allowed-run (y ∷ ys) xs ws o b t =
       let z = next-within h xs ws o y (b .0) .1 (t .0) in
-      ap (λ (a : Outcome). a .number) (run-on ws y ys z) ∙ allowed-run ys (slot (h .bits) y ∷ xs) (increment ws y .words) (next-on h xs ws o y (b .0) z) (b .1) (t .1)
+      ap (λ (a : Outcome). a .number) (run-on ws y ys z) ∙ allowed-run ys (slotOf h y ∷ xs) (increment ws y .words) (next-on h xs ws o y (b .0) z) (b .1) (t .1)
 
   pub run-reaches : (ys xs ws : List ℕ) → On h xs ws → Below (flows h) ys → run ws ys .number ≡ 0 → On h (reverseAux (slots h ys) xs) (run ws ys .words)
   unfolding run
@@ -121,34 +121,38 @@ module _ (h : Header) where
   run-reaches (y ∷ ys) xs ws o b e =
       let z = run-first ws y ys e in
       let q = run-on ws y ys z in
-      subst (λ (a : Outcome). On h (reverseAux (slots h ys) (slot (h .bits) y ∷ xs)) (a .words)) (sym q)
-      (run-reaches ys (slot (h .bits) y ∷ xs) (increment ws y .words) (next-on h xs ws o y (b .0) z) (b .1) (sym (ap (λ (a : Outcome). a .number) q) ∙ e))
+      subst (λ (a : Outcome). On h (reverseAux (slots h ys) (slotOf h y ∷ xs)) (a .words)) (sym q)
+      (run-reaches ys (slotOf h y ∷ xs) (increment ws y .words) (next-on h xs ws o y (b .0) z) (b .1) (sym (ap (λ (a : Outcome). a .number) q) ∙ e))
 
 -- ---- listings by flow and by slot
 
-module _ (b : ℕ) where
-  pub listed-slots : (y : ℕ) (ys : List ℕ) → y < 2 ^ b → Below (2 ^ b) ys → listed (slot b y) (map (slot b) ys) ≡ listed y ys
-  listed-slots y [] l h = refl
-  listed-slots y (z ∷ ys) l h =
+module _ (h : Header) (v : T (validSpread (h .bits) (h .spread))) where
+  pub listed-slots : (y : ℕ) (ys : List ℕ) → y < flows h → Below (flows h) ys → listed (slotOf h y) (slots h ys) ≡ listed y ys
+  listed-slots y [] l b = refl
+  listed-slots y (z ∷ ys) l b =
       ap₂ _+_ (by-eq y z
-      (λ e. ap oneIf (sym (T-true (eqb (slot b y) (slot b z)) (subst (λ x. T (eqb (slot b y) (slot b x))) e (eqb-refl (slot b y)))) ∙ T-true (eqb y z) (subst (λ x. T (eqb y x)) e (eqb-refl y))))
-      (λ n. ap oneIf (eqb-false (slot b y) (slot b z) (λ e. n (slot-inj b y z l (h .0) e)) ∙ sym (eqb-false y z n))))
-      (listed-slots y ys l (h .1))
+      (λ e. ap oneIf (sym (T-true (eqb (slotOf h y) (slotOf h z)) (subst (λ x. T (eqb (slotOf h y) (slotOf h x))) e (eqb-refl (slotOf h y)))) ∙ T-true (eqb y z) (subst (λ x. T (eqb y x)) e (eqb-refl y))))
+      (λ n. ap oneIf (eqb-false (slotOf h y) (slotOf h z) (λ e. n (slot-inj (h .bits) (h .spread) v y z l (b .0) e)) ∙ sym (eqb-false y z n))))
+      (listed-slots y ys l (b .1))
 
-  none-listed : (s : ℕ) (xs : List ℕ) → 2 ^ b ≤ s → listed s (map (slot b) xs) ≡ 0
+  none-listed : (s : ℕ) (xs : List ℕ) → flows h ≤ s → listed s (slots h xs) ≡ 0
   none-listed s [] l = refl
-  none-listed s (x ∷ xs) l = ap₂ _+_ (ap oneIf (eqb-false s (slot b x) (λ e. omega (arith, slot-lt b x)))) (none-listed s xs l)
+  none-listed s (x ∷ xs) l = ap₂ _+_ (ap oneIf (eqb-false s (slotOf h x) (λ e. omega (arith, slot-lt (h .bits) (h .spread) x)))) (none-listed s xs l)
 
   -- flows listed equally often stand on slots listed equally often
-  pub same-slots : (xs ys : List ℕ) → Below (2 ^ b) xs → Below (2 ^ b) ys → ((y : ℕ) → y < 2 ^ b → listed y xs ≡ listed y ys)
-      → (s : ℕ) → listed s (map (slot b) xs) ≡ listed s (map (slot b) ys)
-  same-slots xs ys hx hy f s = go (decLt s (2 ^ b))
+  pub same-slots : (xs ys : List ℕ) → Below (flows h) xs → Below (flows h) ys → ((y : ℕ) → y < flows h → listed y xs ≡ listed y ys)
+      → (s : ℕ) → listed s (slots h xs) ≡ listed s (slots h ys)
+  same-slots xs ys hx hy f s = go (decLt s (flows h))
     where
-      at : (zs : List ℕ) → Below (2 ^ b) zs → s < 2 ^ b → listed s (map (slot b) zs) ≡ listed (slot b s) zs
-      at zs hz l = ap (λ x. listed x (map (slot b) zs)) (sym (slot-slot b s l)) ∙ listed-slots (slot b s) zs (slot-lt b s) hz
+      at : (y : ℕ) (zs : List ℕ) → Below (flows h) zs → y < flows h → slotOf h y ≡ s → listed s (slots h zs) ≡ listed y zs
+      at y zs hz l e = ap (λ x. listed x (slots h zs)) (sym e) ∙ listed-slots y zs l hz
 
-      go : Dec (s < 2 ^ b) → listed s (map (slot b) xs) ≡ listed s (map (slot b) ys)
-      go (yes l) = at xs hx l ∙ f (slot b s) (slot-lt b s) ∙ sym (at ys hy l)
+      go : Dec (s < flows h) → listed s (slots h xs) ≡ listed s (slots h ys)
+      go (yes l) =
+          let y : ℕ = flowAt h s in
+          let k : y < flows h = slot-lt (h .bits) (undoing (h .bits) (h .spread)) s in
+          let e : slotOf h y ≡ s = slot-flow (h .bits) (h .spread) s v l in
+          at y xs hx k e ∙ f y k ∙ sym (at y ys hy k e)
       go (no n) = none-listed s xs (omega arith) ∙ sym (none-listed s ys (omega arith))
 
 -- ---- from a fresh wall
@@ -197,7 +201,7 @@ module _ (h : Header) (l : Limits (withTotals h 0 0)) (k : Tabled h) where
   rev-crowded ys = crowdedOf-listed 64 (bucketsIn h) (h .width) (h .rows) (reverseAux (slots h ys) []) (slots h ys) (rev-listed ys)
 
   rev-length : (ys : List ℕ) → length (reverseAux (slots h ys) []) ≡ length ys
-  rev-length ys = whole-length 64 (bucketsIn h) (h .width) (h .rows) (h .limit) (h .full) (slots h ys) ∙ length-map ys (slot (h .bits))
+  rev-length ys = whole-length 64 (bucketsIn h) (h .width) (h .rows) (h .limit) (h .full) (slots h ys) ∙ length-map ys (slotOf h)
 
   rev-tally : (ys : List ℕ) (k : ℕ) → tallies k (reverseAux (slots h ys) []) ≡ tallies k (slots h ys)
   rev-tally ys k = tab-ext 64 (λ a. listed (k * 64 + a) (reverseAux (slots h ys) [])) (λ a. listed (k * 64 + a) (slots h ys)) (λ a _. rev-listed ys (k * 64 + a))
@@ -208,16 +212,15 @@ module _ (h : Header) (l : Limits (withTotals h 0 0)) (k : Tabled h) where
   after-on ys ws b o =
       let r = o .reached in
       let v : Wall = parse ws in
-      let bits : v .header .bits ≡ h .bits = ap (λ (k : Header). k .bits) (r .header) in
       record {
         accepted = o .accepted;
         header = r .header ∙ ap₂ (withTotals h) (rev-length ys) (reached-used h (reverseAux (slots h ys) []) v r ∙ rev-crowded ys);
         counts = λ y m.
-            let x : ℕ = slot (h .bits) y in
-            ap (λ n. getD (countsAt v (slot n y / 64)) (slot n y % 64) 0) bits
-            ∙ ap (λ c. getD c (x % 64) 0) (r .counts (x / 64) (bucket-lt (h .bits) y (l .bits-low)) ∙ rev-tally ys (x / 64))
+            let x : ℕ = slotOf h y in
+            ap (λ g. getD (countsAt v (bucketOf g y)) (placeOf g y) 0) (r .header)
+            ∙ ap (λ c. getD c (x % 64) 0) (r .counts (x / 64) (bucket-lt h y (l .bits-low)) ∙ rev-tally ys (x / 64))
             ∙ getD-tab 64 (λ a. listed (x / 64 * 64 + a) (slots h ys)) (x % 64) (mod-lt x (lit< tt))
-            ∙ ap (λ s. listed s (slots h ys)) (at-slot x) ∙ listed-slots (h .bits) y ys m b;
+            ∙ ap (λ s. listed s (slots h ys)) (at-slot x) ∙ listed-slots h (l .spread-valid) y ys m b;
         tallied = λ k m. r .counts k m ∙ rev-tally ys k;
         flags = λ k m. r .flags k m ∙ ap (λ c. oneIf (crowded (h .width) (h .rows) c)) (rev-tally ys k);
         needed = λ k m. r .needed k (subst (λ (g : Header). k < bucketsIn g) (sym (r .header)) m);
@@ -235,13 +238,13 @@ module _ (h : Header) (l : Limits (withTotals h 0 0)) (k : Tabled h) where
     same-length = sym (sum-listed (flows h) xs bx) ∙ ap sum (tab-ext (flows h) (λ s. listed s xs) (λ s. listed s ys) f) ∙ sum-listed (flows h) ys by
 
     pub same-crowded : crowdedBuckets h xs ≡ crowdedBuckets h ys
-    same-crowded = crowdedOf-listed 64 (bucketsIn h) (h .width) (h .rows) (slots h xs) (slots h ys) (same-slots (h .bits) xs ys bx by f)
+    same-crowded = crowdedOf-listed 64 (bucketsIn h) (h .width) (h .rows) (slots h xs) (slots h ys) (same-slots h (l .spread-valid) xs ys bx by f)
 
     pub accepted-alike : run (fresh h) xs .number ≡ 0 → run (fresh h) ys .number ≡ 0
     accepted-alike e = let w = accepted-list xs bx .0 e in accepted-list ys by .1 (rw (← same-length) (w .0), rw (← same-crowded) (w .1))
 
     pub same-tally : (k : ℕ) → tallies k (slots h xs) ≡ tallies k (slots h ys)
-    same-tally k = tab-ext 64 (λ a. listed (k * 64 + a) (slots h xs)) (λ a. listed (k * 64 + a) (slots h ys)) (λ a _. same-slots (h .bits) xs ys bx by f (k * 64 + a))
+    same-tally k = tab-ext 64 (λ a. listed (k * 64 + a) (slots h xs)) (λ a. listed (k * 64 + a) (slots h ys)) (λ a _. same-slots h (l .spread-valid) xs ys bx by f (k * 64 + a))
 
     -- and end with the same counts, total, U and flags
     pub ends-alike : run (fresh h) xs .number ≡ 0 → Same h (run (fresh h) xs .words) (run (fresh h) ys .words)
@@ -260,4 +263,4 @@ module _ (h : Header) (l : Limits (withTotals h 0 0)) (k : Tabled h) where
   next-after ys b e y m =
       next-number h (reverseAux (slots h ys) []) (run (fresh h) ys .words) (run-reaches h ys [] (fresh h) fresh-on b e) y m
       ∙ ap₂ (λ n c. firstMet (refuse 10 (eqb n (h .limit)) ∷ refuse 12 (ltb (h .full) c) ∷ [])) (rev-length ys)
-      (crowdedOf-listed 64 (bucketsIn h) (h .width) (h .rows) (slot (h .bits) y ∷ reverseAux (slots h ys) []) (slots h (y ∷ ys)) (λ s. ap (λ n. oneIf (eqb s (slot (h .bits) y)) + n) (rev-listed ys s)))
+      (crowdedOf-listed 64 (bucketsIn h) (h .width) (h .rows) (slotOf h y ∷ reverseAux (slots h ys) []) (slots h (y ∷ ys)) (λ s. ap (λ n. oneIf (eqb s (slotOf h y)) + n) (rev-listed ys s)))

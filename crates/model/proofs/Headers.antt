@@ -10,10 +10,10 @@ use lib.Pow.{pow-add}
 use lib.ListN.{length}
 use Rattle.model.specs.Lists.{sum}
 use Rattle.model.specs.Shapes.{Row, rowsOf, knownShape, markWidths, validRow, falling, validRows}
-use Rattle.model.specs.Slots.{slot, knownBits}
-use Rattle.model.specs.Walls.{Header, letters, headField, readHeader, limits, good, goodTests, wallSize, bucketsIn, countEnd, limitFits, fullFits}
+use Rattle.model.specs.Slots.{slot, knownBits, validSpread}
+use Rattle.model.specs.Walls.{Header, letters, headField, readHeader, limits, good, goodTests, wallSize, bucketsIn, countEnd, limitFits, fullFits, slotOf, bucketOf}
 use Rattle.model.proofs.Growth.{Wide}
-use Rattle.model.proofs.Slots.{slot-lt}
+use Rattle.model.proofs.Slots.{slot-lt, undoing}
 use Rattle.model.proofs.Tools.{AllT, all-tests, tests-all, and-tests, tests-and}
 
 -- Of the rows of a shape: no width is 0, and their marks have room below the flag. The laws of walls use only this of a shape.
@@ -67,7 +67,7 @@ pub record Limits (h : Header) : Type 0 where
   pub full-number : h .full ≤ bucketsIn h
   pub within : h .total ≤ h .limit
   pub spare-full : h .used ≤ h .full
-  pub spare-none : h .spare ≡ 0
+  pub spread-valid : T (validSpread (h .bits) (h .spread))
 
 pub limits-of : (h : Header) → Fine (h .rows) → AllT (limits h) → Limits h
 limits-of h f t =
@@ -90,7 +90,7 @@ limits-of h f t =
       full-number = leb→le (h .full) (bucketsIn h) (j .0);
       within = leb→le (h .total) (h .limit) (t .1 .1 .1 .1 .1 .0);
       spare-full = leb→le (h .used) (h .full) (t .1 .1 .1 .1 .1 .1 .0);
-      spare-none = eqb→eq (h .spare) 0 (t .1 .1 .1 .1 .1 .1 .1 .0);
+      spread-valid = t .1 .1 .1 .1 .1 .1 .1 .0;
     }
 
 pub eq-eqb : {m n : ℕ} → m ≡ n → T (eqb m n)
@@ -114,7 +114,7 @@ module _ (h : Header) (l : Limits h) where
     shape-test,
     (
       tests-and (leb 1 (h .width)) (leb (h .width) 16) (le→leb 1 (h .width) (l .width-low)) (le→leb (h .width) 16 (l .width-high)),
-      (bits-test, (limit-test, (full-test, (le→leb (h .total) (h .limit) (l .within), (le→leb (h .used) (h .full) (l .spare-full), (eq-eqb (l .spare-none), tt)))))),
+      (bits-test, (limit-test, (full-test, (le→leb (h .total) (h .limit) (l .within), (le→leb (h .used) (h .full) (l .spare-full), (l .spread-valid, tt)))))),
     ),
   )
 
@@ -149,5 +149,9 @@ flows-number b h = ap (λ n. 2 ^ n) (omega arith) ∙ pow-add 2 (b - 6) 6
 pub slot-bucket : (b s : ℕ) → 6 ≤ b → s < 2 ^ b → s / 64 < 2 ^ (b - 6)
 slot-bucket b s h l = div-lt-iff-lt-mul (lit< tt) .1 (rw (← flows-number b h) l)
 
-pub bucket-lt : (b y : ℕ) → 6 ≤ b → slot b y / 64 < 2 ^ (b - 6)
-bucket-lt b y h = slot-bucket b (slot b y) h (slot-lt b y)
+pub bucket-lt : (h : Header) (y : ℕ) → 6 ≤ h .bits → bucketOf h y < bucketsIn h
+bucket-lt h y l = slot-bucket (h .bits) (slotOf h y) l (slot-lt (h .bits) (h .spread) y)
+
+-- the flow of a slot
+abbrev pub flowAt : Header → ℕ → ℕ
+flowAt h s = slot (h .bits) (undoing (h .bits) (h .spread)) s

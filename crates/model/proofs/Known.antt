@@ -2,8 +2,7 @@
 use mathlib.Core.Path.{_≡_, sym, ap, _∙_, subst}
 use mathlib.Core.List.{List, [], _∷_}
 use Prim.Native.Nat.{ℕ, _<_}
-use Rattle.model.specs.Slots.{slot}
-use Rattle.model.specs.Walls.{Header, flows}
+use Rattle.model.specs.Walls.{Header, flows, slotOf}
 use Rattle.model.specs.Calls.{Outcome, increment}
 use Rattle.model.specs.Runs.{run}
 use Rattle.model.proofs.Lists.{Below}
@@ -15,4 +14,4 @@ run-known h [] xs ws o e = tt
 run-known h (y ∷ ys) xs ws o e =
     let z = run-first ws y ys e in
     let l : y < flows h = subst (λ (k : Header). y < flows k) (o .reached .header) (follows ws y z .flow) in
-    (l, run-known h ys (slot (h .bits) y ∷ xs) (increment ws y .words) (next-on h xs ws o y l z) (sym (ap (λ (a : Outcome). a .number) (run-on ws y ys z)) ∙ e))
+    (l, run-known h ys (slotOf h y ∷ xs) (increment ws y .words) (next-on h xs ws o y l z) (sym (ap (λ (a : Outcome). a .number) (run-on ws y ys z)) ∙ e))

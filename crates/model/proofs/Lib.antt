@@ -9,6 +9,7 @@ pub mod Order
 pub mod AcrossWords
 pub mod Fields
 pub mod Tests
+pub mod Spreads
 pub mod Slots
 pub mod Tools
 pub mod Pieces

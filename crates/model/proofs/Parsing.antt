@@ -2,9 +2,10 @@
 use mathlib.Core.Path.{_≡_, refl, sym, ap, ap₂, _∙_}
 use mathlib.Core.List.{List, [], _∷_, _++_, map, append-nil}
 use Prim.Native.Nat.{ℕ, zero, suc, _+_, _*_, _/_, _%_, _^_, _≤_, _<_}
-use native.Mathlib.Nat.{le-of-suc-le-suc, not-suc-le-zero, mod-eq-of-lt}
+use native.Mathlib.Nat.{le-of-suc-le-suc, not-suc-le-zero, mod-eq-of-lt, le-trans}
 use native.Mathlib.Omega.{arith}
 use lib.Dec.{lit<}
+use lib.Pow.{pow-mono}
 use lib.ListN.{length, getD, take, drop, set, length-append, length-drop, take-append-drop, length-map}
 use lib.Seq.{take-at, drop-at, drop-drop, length-take-le, take-all}
 use Rattle.model.specs.Lists.{splice, pieces, concat}
@@ -12,6 +13,7 @@ use Rattle.model.specs.Packed.{joinFields}
 use Rattle.model.specs.Shapes.{Row, rowsOf, bucketSize}
 use Rattle.model.specs.Walls.{Header, Bucket, Full, Wall, bucketsIn, letters, headFields, fullFields, fullWord, headerWords, version, wordAt, headField, readHeader, bucketWords, readBucket, fullWords, readFull, flatten, parseAs, parse}
 use Rattle.model.proofs.Lists.{map-set}
+use Rattle.model.proofs.Slots.{spread-lt}
 use Rattle.model.proofs.Fields.{Fill, cut-join, join-cut}
 use Rattle.model.proofs.Tools.{Each, each-map, map-back}
 use Rattle.model.proofs.Pieces.{Sized, length-cat, chunks-cat, cat-chunks, length-chunks, sized-chunks, chunk-at, splice-after, cat-set}
@@ -78,13 +80,16 @@ wallOf h bs fs = record { header = h; buckets = bs; fulls = fs }
 -- the fields of a header fit their places in the words, and its rows are those of its shape number
 pub record Coded (h : Header) : Type 0 where
   pub head : Fill headFields (letters ∷ version ∷ h .shape ∷ h .width ∷ h .bits ∷ [])
-  pub fulls : Fill fullFields (h .full ∷ h .used ∷ h .spare ∷ [])
+  pub fulls : Fill fullFields (h .full ∷ h .used ∷ h .spread ∷ [])
   pub tabled : h .rows ≡ rowsOf (h .shape)
+
+pub spread-fits : (h : Header) → Limits h → h .spread < 2 ^ 32
+spread-fits h l = let e : h .bits ≤ 32 = omega (arith, l .bits-high) in le-trans (spread-lt (h .bits) (h .spread) (l .spread-valid)) (pow-mono e)
 
 pub coded-of : (h : Header) → Limits h → h .rows ≡ rowsOf (h .shape) → Coded h
 coded-of h l e = record {
   head = (lit< tt, (lit< tt, (omega (arith, l .shape-high), (omega (arith, l .width-high), (omega (arith, l .bits-high), tt)))));
-  fulls = (omega (arith, l .full-most), (omega (arith, l .full-most, l .spare-full), (omega (arith, l .spare-none), tt)));
+  fulls = (omega (arith, l .full-most), (omega (arith, l .full-most, l .spare-full), (spread-fits h l, tt)));
   tabled = e;
 }
 
@@ -104,7 +109,7 @@ headerFrom f m t j u s = record {
   total = t;
   full = j;
   used = u;
-  spare = s;
+  spread = s;
 }
 
 -- word 3, taken apart
@@ -114,12 +119,12 @@ full-word j u s h k = (omega arith, omega arith, omega arith)
 pub read-head : (h : Header) (r : List ℕ) → Coded h → readHeader (headerWords h ++ r) ≡ h
 unfolding headerFrom
 read-head h r c =
-    let e = full-word (h .full) (h .used) (h .spare) (c .fulls .0) (c .fulls .1 .0) in
+    let e = full-word (h .full) (h .used) (h .spread) (c .fulls .0) (c .fulls .1 .0) in
     let x : ℕ = fullWord h in
     ap (λ f. headerFrom f (h .limit) (h .total) (x % 2 ^ 16) (x / 2 ^ 16 % 2 ^ 16) (x / 2 ^ 16 / 2 ^ 16)) (cut-join headFields (letters ∷ version ∷ h .shape ∷ h .width ∷ h .bits ∷ []) (c .head))
-    ∙ ap (λ j. record { shape = h .shape; rows = rowsOf (h .shape); width = h .width; bits = h .bits; limit = h .limit; total = h .total; full = j; used = x / 2 ^ 16 % 2 ^ 16; spare = x / 2 ^ 16 / 2 ^ 16 }) (e .0)
-    ∙ ap₂ (λ u s. record { shape = h .shape; rows = rowsOf (h .shape); width = h .width; bits = h .bits; limit = h .limit; total = h .total; full = h .full; used = u; spare = s }) (e .1) (e .2)
-    ∙ ap (λ t. record { shape = h .shape; rows = t; width = h .width; bits = h .bits; limit = h .limit; total = h .total; full = h .full; used = h .used; spare = h .spare }) (sym (c .tabled))
+    ∙ ap (λ j. record { shape = h .shape; rows = rowsOf (h .shape); width = h .width; bits = h .bits; limit = h .limit; total = h .total; full = j; used = x / 2 ^ 16 % 2 ^ 16; spread = x / 2 ^ 16 / 2 ^ 16 }) (e .0)
+    ∙ ap₂ (λ u s. record { shape = h .shape; rows = rowsOf (h .shape); width = h .width; bits = h .bits; limit = h .limit; total = h .total; full = h .full; used = u; spread = s }) (e .1) (e .2)
+    ∙ ap (λ t. record { shape = h .shape; rows = t; width = h .width; bits = h .bits; limit = h .limit; total = h .total; full = h .full; used = h .used; spread = h .spread }) (sym (c .tabled))
 
 pub head-marked : (h : Header) (r : List ℕ) → Fill headFields (letters ∷ version ∷ h .shape ∷ h .width ∷ h .bits ∷ [])
     → (headField (headerWords h ++ r) 0 ≡ letters) × (headField (headerWords h ++ r) 1 ≡ version)

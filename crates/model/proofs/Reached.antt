@@ -12,8 +12,7 @@ use lib.ListN.{length, getD, set}
 use lib.Seq.{set-getD, set-set, getD-set-same}
 use Rattle.model.specs.Lists.{sum, oneIf, byMark}
 use Rattle.model.specs.Levels.{crowded}
-use Rattle.model.specs.Slots.{slot}
-use Rattle.model.specs.Walls.{Header, Bucket, Full, Wall, bucketsIn, emptyFull, withTotals, wall, bucketOf, placeOf}
+use Rattle.model.specs.Walls.{Header, Bucket, Full, Wall, bucketsIn, emptyFull, withTotals, wall, slotOf, bucketOf, placeOf}
 use Rattle.model.specs.Sound.{flag, fullNumber, bucketCounts, ownAt, bucketAt, countsAt, count}
 use Rattle.model.specs.Calls.{noRoom, overflows, raisedBy}
 use Rattle.model.specs.Runs.{listed, tallies, crowdedAfter}
@@ -99,7 +98,7 @@ module _ (h : Header) (t u : ℕ) (bs : List Bucket) (fs : List Full) (xs : List
   v = wall (withTotals h t u) bs fs
 
   abbrev x : ℕ
-  x = slot (h .bits) y
+  x = slotOf h y
 
   abbrev i : ℕ
   i = x / 64
@@ -111,7 +110,7 @@ module _ (h : Header) (t u : ℕ) (bs : List Bucket) (fs : List Full) (xs : List
   zs = again d x xs
 
   li : i < bucketsIn h
-  li = bucket-lt (h .bits) y (r .sound .limits .bits-low)
+  li = bucket-lt h y (r .sound .limits .bits-low)
 
   c-tally : count v y ≡ getD (tallies i xs) a 0
   unfolding count
@@ -201,10 +200,10 @@ module _ (h : Header) (xs : List ℕ) (v : Wall) (r : Reached h xs v) where
   pub reached-used : v .header .used ≡ crowdedAfter h xs
   reached-used = at-header (λ v. v .header .used ≡ crowdedAfter h xs) (λ t u q. sym (now h t u (v .buckets) (v .fulls) xs q 0 0))
 
-  pub reached-crowds : (y d : ℕ) → (overflows v (bucketOf (v .header) y) (placeOf (v .header) y) (count v y + d) && eqb (v .header .used) (v .header .full)) ≡ ltb (h .full) (crowdedAfter h (again d (slot (h .bits) y) xs))
-  reached-crowds y d = at-header (λ v. (overflows v (bucketOf (v .header) y) (placeOf (v .header) y) (count v y + d) && eqb (v .header .used) (v .header .full)) ≡ ltb (h .full) (crowdedAfter h (again d (slot (h .bits) y) xs)))
+  pub reached-crowds : (y d : ℕ) → (overflows v (bucketOf (v .header) y) (placeOf (v .header) y) (count v y + d) && eqb (v .header .used) (v .header .full)) ≡ ltb (h .full) (crowdedAfter h (again d (slotOf h y) xs))
+  reached-crowds y d = at-header (λ v. (overflows v (bucketOf (v .header) y) (placeOf (v .header) y) (count v y + d) && eqb (v .header .used) (v .header .full)) ≡ ltb (h .full) (crowdedAfter h (again d (slotOf h y) xs)))
       (λ t u q. full-crowds h t u (v .buckets) (v .fulls) xs q y d)
 
-  pub reached-next : (y d : ℕ) → 1 ≤ d → Free v y (r .sound) d → Reached h (again d (slot (h .bits) y) xs) (raisedBy v y d)
-  reached-next y d p f = at-header (λ v. Stepped v (bucketOf (v .header) y) (placeOf (v .header) y) d (raisedBy v y d) → Reached h (again d (slot (h .bits) y) xs) (raisedBy v y d))
+  pub reached-next : (y d : ℕ) → 1 ≤ d → Free v y (r .sound) d → Reached h (again d (slotOf h y) xs) (raisedBy v y d)
+  reached-next y d p f = at-header (λ v. Stepped v (bucketOf (v .header) y) (placeOf (v .header) y) d (raisedBy v y d) → Reached h (again d (slotOf h y) xs) (raisedBy v y d))
       (λ t u q. next h t u (v .buckets) (v .fulls) xs q y d) (more-stepped v y (r .sound) d p f)

@@ -4,13 +4,13 @@ use mathlib.Core.Path.{_≡_, refl, sym, ap, _∙_}
 use mathlib.Core.List.{List, [], _∷_, _++_}
 use Prim.Native.Nat.{ℕ, zero, suc, _≤_, zero-le}
 use native.Mathlib.Omega.{arith}
-use lib.Dec.{T, leb, eqb, le→leb, nltb→le, eqb→eq, eqb-refl, lit<, lit≤}
+use lib.Dec.{T, leb, eqb, le→leb, nltb→le, eqb→eq, lit<, lit≤}
 use lib.Arith.{le→nltb}
 use lib.ListN.{length}
 use Rattle.model.specs.Shapes.{knownShape, widthAsked}
-use Rattle.model.specs.Slots.{knownBits}
+use Rattle.model.specs.Slots.{knownBits, validSpread}
 use Rattle.model.specs.Walls.{Header, wallSize, limitFits, fullFits, readHeader, good, withTotals, fresh}
-use Rattle.model.specs.Calls.{Outcome, firstMet, asked, raiseRefusals, raise, closeRefusals, close, increment}
+use Rattle.model.specs.Calls.{Outcome, firstMet, Ask, asked, raiseRefusals, raise, closeRefusals, close, increment}
 use Rattle.model.specs.Runs.{run}
 use Rattle.model.proofs.Tools.{tests-and, not-not, to-not-not}
 use Rattle.model.proofs.Headers.{Limits, rows-fine, limits-of, shape-test, bits-test, limit-test, full-test, eq-eqb}
@@ -29,36 +29,37 @@ width-given : (w : ℕ) → widthAsked w ≤ 16 → w ≤ 16
 width-given zero h = zero-le
 width-given (suc w) h = h
 
-module _ (p w b m j : ℕ) (ws : List ℕ) where
+module _ (a : Ask) (ws : List ℕ) where
   abbrev h : Header
-  h = asked p w b m j
+  h = asked a
 
   -- a wall is raised exactly where its fields keep their limits and the length is exact
-  pub raised-iff : (raise p w b m j ws .number ≡ 0) ↔ (Limits h × (length ws ≡ wallSize h))
+  pub raised-iff : (raise a ws .number ≡ 0) ↔ (Limits h × (length ws ≡ wallSize h))
   unfolding raise
   raised-iff = (
     (λ e.
-        let c = clear-first (raiseRefusals p w b m j ws) (lit< tt, (lit< tt, (lit< tt, (lit< tt, (lit< tt, (lit< tt, tt)))))) (sym (answer-no 0 (fresh h) ws (firstMet (raiseRefusals p w b m j ws))) ∙ e) in
-        let s = not-not (knownShape p) (c .0) in
-        let k = tests-and (leb 1 (widthAsked w)) (leb (widthAsked w) 16) (le→leb 1 (widthAsked w) (width-low w)) (le→leb (widthAsked w) 16 (width-high w (nltb→le 16 w (c .1 .0)))) in (
-          limits-of h (rows-fine p s) (s, (k, (not-not (knownBits b) (c .1 .1 .0), (not-not (limitFits h) (c .1 .1 .1 .0), (not-not (fullFits h) (c .1 .1 .1 .1 .0), (le→leb 0 m zero-le, (le→leb 0 j zero-le, (eqb-refl 0, tt)))))))),
-          eqb→eq (length ws) (wallSize h) (not-not (eqb (length ws) (wallSize h)) (c .1 .1 .1 .1 .1 .0)),
+        let c = clear-first (raiseRefusals a ws) (lit< tt, (lit< tt, (lit< tt, (lit< tt, (lit< tt, (lit< tt, (lit< tt, tt))))))) (sym (answer-no 0 (fresh h) ws (firstMet (raiseRefusals a ws))) ∙ e) in
+        let s = not-not (knownShape (a .shape)) (c .0) in
+        let w = tests-and (leb 1 (h .width)) (leb (h .width) 16) (le→leb 1 (h .width) (width-low (a .width))) (le→leb (h .width) 16 (width-high (a .width) (nltb→le 16 (a .width) (c .1 .0)))) in
+        let m = not-not (validSpread (a .bits) (a .spread)) (c .1 .1 .1 .1 .1 .0) in (
+          limits-of h (rows-fine (a .shape) s) (s, (w, (not-not (knownBits (a .bits)) (c .1 .1 .0), (not-not (limitFits h) (c .1 .1 .1 .0), (not-not (fullFits h) (c .1 .1 .1 .1 .0), (le→leb 0 (a .limit) zero-le, (le→leb 0 (a .full) zero-le, (m, tt)))))))),
+          eqb→eq (length ws) (wallSize h) (not-not (eqb (length ws) (wallSize h)) (c .1 .1 .1 .1 .1 .1 .0)),
         )),
     (λ g.
         let l = g .0 in
-        answer-no 0 (fresh h) ws (firstMet (raiseRefusals p w b m j ws)) ∙ first-clear (raiseRefusals p w b m j ws) (
-          to-not-not (knownShape p) (shape-test h l),
+        answer-no 0 (fresh h) ws (firstMet (raiseRefusals a ws)) ∙ first-clear (raiseRefusals a ws) (
+          to-not-not (knownShape (a .shape)) (shape-test h l),
           (
-            le→nltb 16 w (width-given w (l .width-high)),
-            (to-not-not (knownBits b) (bits-test h l), (to-not-not (limitFits h) (limit-test h l), (to-not-not (fullFits h) (full-test h l), (to-not-not (eqb (length ws) (wallSize h)) (eq-eqb (g .1)), tt)))),
+            le→nltb 16 (a .width) (width-given (a .width) (l .width-high)),
+            (to-not-not (knownBits (a .bits)) (bits-test h l), (to-not-not (limitFits h) (limit-test h l), (to-not-not (fullFits h) (full-test h l), (to-not-not (validSpread (a .bits) (a .spread)) (l .spread-valid), (to-not-not (eqb (length ws) (wallSize h)) (eq-eqb (g .1)), tt))))),
           ),
         )),
   )
 
-  pub raised-words : raise p w b m j ws .number ≡ 0 → raise p w b m j ws .words ≡ fresh h
+  pub raised-words : raise a ws .number ≡ 0 → raise a ws .words ≡ fresh h
   unfolding raise
   raised-words e =
-      ap (λ (a : Outcome). a .words) (answer-done 0 (fresh h) ws (firstMet (raiseRefusals p w b m j ws)) (sym (answer-no 0 (fresh h) ws (firstMet (raiseRefusals p w b m j ws))) ∙ e))
+      ap (λ (r : Outcome). r .words) (answer-done 0 (fresh h) ws (firstMet (raiseRefusals a ws)) (sym (answer-no 0 (fresh h) ws (firstMet (raiseRefusals a ws))) ∙ e))
 
 -- ---- close
 
@@ -77,7 +78,7 @@ cleared g l = record {
   full-number = l .full-number;
   within = zero-le;
   spare-full = zero-le;
-  spare-none = l .spare-none;
+  spread-valid = l .spread-valid;
 }
 
 module _ (ws : List ℕ) where

@@ -155,7 +155,7 @@ module _ (x : Wall) (s : SoundWall x) (i a d : ℕ) (li : i < bucketsIn (x .head
           full-number = s .limits .full-number;
           within = omega arith;
           spare-full = l .spare;
-          spare-none = s .limits .spare-none;
+          spread-valid = s .limits .spread-valid;
         };
         each = λ k h. by-eq k i
             (λ e. subst (λ n. SoundB (x .header .width) (x .header .rows) (x .header .total + d) u (bucketAt (next u bs fs) n) (fullFor (next u bs fs) n)) (sym e) (l .sound))

@@ -18,7 +18,7 @@ use Rattle.model.proofs.OwnSteps.{hold-lengths, over-lengths, empty-len
 use Rattle.model.proofs.Steps.{length-moved}
 
 -- new totals are two words
-pub totals-words : (h : Header) (t u : ℕ) (bs : List Bucket) (fs : List Full) → flatten (wall (withTotals h t u) bs fs) ≡ set (set (flatten (wall h bs fs)) 2 t) 3 (joinFields fullFields (h .full ∷ u ∷ h .spare ∷ []))
+pub totals-words : (h : Header) (t u : ℕ) (bs : List Bucket) (fs : List Full) → flatten (wall (withTotals h t u) bs fs) ≡ set (set (flatten (wall h bs fs)) 2 t) 3 (joinFields fullFields (h .full ∷ u ∷ h .spread ∷ []))
 unfolding flatten
 totals-words h t u bs fs = refl
 
@@ -70,7 +70,7 @@ module _ (ws : List ℕ) (g : Good ws) (l : wordAt ws 0 < 2 ^ 64) where
   -- ---- the three ways of a step, for any words of good header, sound or not: the bucket's words, then the totals
 
   abbrev pub totals : List ℕ → ℕ → ℕ → List ℕ
-  totals x t u = set (set x 2 t) 3 (joinFields fullFields (h .full ∷ u ∷ h .spare ∷ []))
+  totals x t u = set (set x 2 t) 3 (joinFields fullFields (h .full ∷ u ∷ h .spread ∷ []))
 
   module _ (i a c t : ℕ) (k : i < bucketsIn h) where
     -- the levels have room

@@ -7,7 +7,7 @@ use lib.ListN.{length, set, take, drop}
 use Rattle.model.specs.Lists.{choose, byMark, lowest}
 use Rattle.model.specs.Packed.{pack, unpack, joinFields}
 use Rattle.model.specs.Shapes.{Row, rowsOf, knownShape, widthAsked, allRows, counterBits, markWidths}
-use Rattle.model.specs.Slots.{slot, knownBits}
+use Rattle.model.specs.Slots.{slot, knownBits, validSpread}
 use Rattle.model.specs.Levels.{Level, encode, crowded}
 use Rattle.model.specs.Walls.{Header, Bucket, Full, Wall, wall, flows, bucketsIn, countEnd, wallSize, bucketOf, placeOf, withTotals, readHeader, limitFits, fullFits, good, flatten, parse, emptyFull, fresh}
 use Rattle.model.specs.Sound.{upperMarks, flag, fullNumber, packedWord, bucketAt, ownAt, fullFor, count, soundAt, soundBuckets, soundRest}
@@ -54,11 +54,11 @@ outcome (suc n) v done ws = record { number = suc n; value = 0; words = ws }
 
 -- ---- the calls on numbers and bytes
 
-abbrev pub slotRefusals : ℕ → ℕ → List Refusal
-slotRefusals b y = refuse 3 (not (knownBits b)) ∷ refuse 8 (leb (2 ^ b) y) ∷ []
+abbrev pub slotRefusals : ℕ → ℕ → ℕ → List Refusal
+slotRefusals b m y = refuse 3 (not (knownBits b)) ∷ refuse 15 (not (validSpread b m)) ∷ refuse 8 (leb (2 ^ b) y) ∷ []
 
-unfoldable pub slotCall : ℕ → ℕ → Reply
-slotCall b y = reply (firstMet (slotRefusals b y)) (slot b y)
+unfoldable pub slotCall : ℕ → ℕ → ℕ → Reply
+slotCall b m y = reply (firstMet (slotRefusals b m y)) (slot b m y)
 
 abbrev pub limitsRefusals : ℕ → ℕ → List Refusal
 limitsRefusals p w = refuse 1 (not (knownShape p)) ∷ refuse 2 (ltb 16 w) ∷ []
@@ -81,30 +81,46 @@ image (w ∷ ws) = unpack 8 8 w ++ image ws
 
 -- ---- raise and close
 
-abbrev pub asked : ℕ → ℕ → ℕ → ℕ → ℕ → Header
-asked p w b m j = record {
-  shape = p;
-  rows = rowsOf p;
-  width = widthAsked w;
-  bits = b;
-  limit = m;
+-- what a raise is asked
+pub record Ask : Type 0 where
+  pub shape : ℕ
+  -- w1, or 0 for the default
+  pub width : ℕ
+  pub bits : ℕ
+  pub limit : ℕ
+  pub full : ℕ
+  pub spread : ℕ
+
+-- in the order of the call's arguments
+abbrev pub ask : ℕ → ℕ → ℕ → ℕ → ℕ → ℕ → Ask
+ask p w b m j s = record { shape = p; width = w; bits = b; limit = m; full = j; spread = s }
+
+-- the header asked for
+abbrev pub asked : Ask → Header
+asked a = record {
+  shape = a .shape;
+  rows = rowsOf (a .shape);
+  width = widthAsked (a .width);
+  bits = a .bits;
+  limit = a .limit;
   total = 0;
-  full = j;
+  full = a .full;
   used = 0;
-  spare = 0;
+  spread = a .spread;
 }
 
-abbrev pub raiseRefusals : ℕ → ℕ → ℕ → ℕ → ℕ → List ℕ → List Refusal
-raiseRefusals p w b m j ws =
-    refuse 1 (not (knownShape p))
-    ∷ refuse 2 (ltb 16 w)
-    ∷ refuse 3 (not (knownBits b))
-    ∷ refuse 4 (not (limitFits (asked p w b m j)))
-    ∷ refuse 5 (not (fullFits (asked p w b m j)))
-    ∷ refuse 6 (not (eqb (length ws) (wallSize (asked p w b m j)))) ∷ []
+abbrev pub raiseRefusals : Ask → List ℕ → List Refusal
+raiseRefusals a ws =
+    refuse 1 (not (knownShape (a .shape)))
+    ∷ refuse 2 (ltb 16 (a .width))
+    ∷ refuse 3 (not (knownBits (a .bits)))
+    ∷ refuse 4 (not (limitFits (asked a)))
+    ∷ refuse 5 (not (fullFits (asked a)))
+    ∷ refuse 15 (not (validSpread (a .bits) (a .spread)))
+    ∷ refuse 6 (not (eqb (length ws) (wallSize (asked a)))) ∷ []
 
-unfoldable pub raise : ℕ → ℕ → ℕ → ℕ → ℕ → List ℕ → Outcome
-raise p w b m j ws = outcome (firstMet (raiseRefusals p w b m j ws)) 0 (fresh (asked p w b m j)) ws
+unfoldable pub raise : Ask → List ℕ → Outcome
+raise a ws = outcome (firstMet (raiseRefusals a ws)) 0 (fresh (asked a)) ws
 
 abbrev pub closeRefusals : List ℕ → List Refusal
 closeRefusals ws = refuse 7 (not (good ws)) ∷ []

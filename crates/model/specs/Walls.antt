@@ -7,7 +7,7 @@ use lib.ListN.{length, getD, take, drop, replicate}
 use Rattle.model.specs.Lists.{all, pieces, concat}
 use Rattle.model.specs.Packed.{joinFields, cutFields}
 use Rattle.model.specs.Shapes.{Row, rowsOf, knownShape, validWidth, counterBits, bucketSize}
-use Rattle.model.specs.Slots.{slot, knownBits}
+use Rattle.model.specs.Slots.{slot, knownBits, validSpread}
 
 pub record Header : Type 0 where
   pub shape : ℕ
@@ -24,8 +24,8 @@ pub record Header : Type 0 where
   pub full : ℕ
   -- U
   pub used : ℕ
-  -- what stands in word 3 above U
-  pub spare : ℕ
+  -- m
+  pub spread : ℕ
 
 pub record Bucket : Type 0 where
   -- the words of A1, I1, the words A2 and up, and the packed word
@@ -69,7 +69,7 @@ wallSize h = 4 + bucketsIn h * bucketLength h + 65 * h .full
 
 -- the slot of a flow, asked of the header
 abbrev pub slotOf : Header → ℕ → ℕ
-slotOf h y = slot (h .bits) y
+slotOf h y = slot (h .bits) (h .spread) y
 
 abbrev pub bucketOf : Header → ℕ → ℕ
 bucketOf h y = slotOf h y / 64
@@ -87,7 +87,7 @@ withTotals h t u = record {
   total = t;
   full = h .full;
   used = u;
-  spare = h .spare;
+  spread = h .spread;
 }
 
 -- ---- the header's words
@@ -99,7 +99,7 @@ letters = 0x4C5742
 abbrev pub version : ℕ
 version = 1
 
--- the fields of word 0: letters, version, shape, w1, b; and of word 3: J, U, spare
+-- the fields of word 0: letters, version, shape, w1, b; and of word 3: J, U, m
 abbrev pub headFields : List ℕ
 headFields = 24 ∷ 16 ∷ 8 ∷ 8 ∷ 8 ∷ []
 
@@ -107,7 +107,7 @@ abbrev pub fullFields : List ℕ
 fullFields = 16 ∷ 16 ∷ 32 ∷ []
 
 abbrev pub fullWord : Header → ℕ
-fullWord h = joinFields fullFields (h .full ∷ h .used ∷ h .spare ∷ [])
+fullWord h = joinFields fullFields (h .full ∷ h .used ∷ h .spread ∷ [])
 
 abbrev pub headerWords : Header → List ℕ
 headerWords h =
@@ -130,7 +130,7 @@ readHeader ws = record {
   total = wordAt ws 2;
   full = wordAt ws 3 % 2 ^ 16;
   used = wordAt ws 3 / 2 ^ 16 % 2 ^ 16;
-  spare = wordAt ws 3 / 2 ^ 16 / 2 ^ 16;
+  spread = wordAt ws 3 / 2 ^ 16 / 2 ^ 16;
 }
 
 -- ---- a good header
@@ -146,7 +146,7 @@ fullFits h = leb (h .full) (bucketsIn h) && leb (h .full) 4096
 abbrev pub limits : Header → List Bool
 limits h =
     knownShape (h .shape) ∷ validWidth (h .width) ∷ knownBits (h .bits) ∷ limitFits h ∷ fullFits h
-    ∷ leb (h .total) (h .limit) ∷ leb (h .used) (h .full) ∷ eqb (h .spare) 0 ∷ []
+    ∷ leb (h .total) (h .limit) ∷ leb (h .used) (h .full) ∷ validSpread (h .bits) (h .spread) ∷ []
 
 abbrev pub goodTests : List ℕ → List Bool
 goodTests ws =

@@ -1,6 +1,6 @@
 ghost use mathlib.Core.Path.{_≡_};
 ghost use Prim.Native.Nat.{_+_, _*_, _<_};
-ghost use Rattle.model.specs.Slots.{slot};
+ghost use Rattle.model.specs.Slots.{reversed};
 
 // Entry y is the byte y with its bits in reverse order.
 const REVERSED: [u8; 256] = [
@@ -271,7 +271,7 @@ fn wide(x: u8) -> u64
 // Three bytes, each reversed, the first highest. The table is read as one local, for the compiler writes a constant table to the stack at each use.
 pub fn reversed_bytes(first: u64, second: u64, third: u64) -> u64
     requires { ⌜ (first < 256) × (second < 256) × (third < 256) ⌝ }
-    ensures { λ r. ⌜ r ≡ slot 8 first * 65536 + slot 8 second * 256 + slot 8 third ⌝ }
+    ensures { λ r. ⌜ r ≡ reversed 8 first * 65536 + reversed 8 second * 256 + reversed 8 third ⌝ }
 {
     let table = REVERSED;
     let high = wide(table[first as usize]);

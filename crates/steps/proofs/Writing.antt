@@ -203,8 +203,8 @@ module _ (ws : List ℕ) (v : Wall) (i a c : ℕ) (r : Ready ws v i a c) where
     in-wall = subst (λ (g : Header). i < bucketsIn g) (open-header ws v o) (r .bucket)
 
     totals-at : (x : List ℕ) (f : ℕ → ℕ)
-        → set (set x 2 t) 3 (joinFields fullFields (v .full ∷ f (v .used) ∷ v .spare ∷ [])) ≡ set (set x 2 t) 3 (joinFields fullFields (parse ws .header .full ∷ f (parse ws .header .used) ∷ parse ws .header .spare ∷ []))
-    totals-at x f = ap (λ (g : Header). set (set x 2 t) 3 (joinFields fullFields (g .full ∷ f (g .used) ∷ g .spare ∷ []))) (open-header ws v o)
+        → set (set x 2 t) 3 (joinFields fullFields (v .full ∷ f (v .used) ∷ v .spread ∷ [])) ≡ set (set x 2 t) 3 (joinFields fullFields (parse ws .header .full ∷ f (parse ws .header .used) ∷ parse ws .header .spread ∷ []))
+    totals-at x f = ap (λ (g : Header). set (set x 2 t) 3 (joinFields fullFields (g .full ∷ f (g .used) ∷ g .spread ∷ []))) (open-header ws v o)
 
     bucket-offset : 4 + i * bucketLength (headerOf v) ≡ 4 + i * bucketLength (parse ws .header)
     bucket-offset = ap (λ (g : Header). 4 + i * bucketLength g) (open-header ws v o)
@@ -221,10 +221,10 @@ module _ (ws : List ℕ) (v : Wall) (i a c : ℕ) (r : Ready ws v i a c) where
 
     pub step-held : (m : List ℕ) (at : ℕ) (x : Bucket) → flag b ≡ 0 → noRoom (parse ws) i a c ≡ false
         → at ≡ 4 + i * bucketLength (headerOf v) → x ≡ holding (parse ws .header .width) (parse ws .header .rows) (set (ownAt (parse ws) i) a c) → m ≡ splice ws at (bucketWords x)
-        → record { number = 0; value = c; words = set (set m 2 t) 3 (joinFields fullFields (v .full ∷ v .used ∷ v .spare ∷ [])) } ≡ stepIn ws i a c t
+        → record { number = 0; value = c; words = set (set m 2 t) 3 (joinFields fullFields (v .full ∷ v .used ∷ v .spread ∷ [])) } ≡ stepIn ws i a c t
     step-held m at x e z q held em =
         ap (λ (x : List ℕ). record { number = 0; value = c; words = x })
-        (totals-at m (λ u. u) ∙ ap (λ x. set (set x 2 t) 3 (joinFields fullFields (parse ws .header .full ∷ parse ws .header .used ∷ parse ws .header .spare ∷ []))) (em ∙ ap₂ (λ n b. splice ws n (bucketWords b)) (q ∙ bucket-offset) held)
+        (totals-at m (λ u. u) ∙ ap (λ x. set (set x 2 t) 3 (joinFields fullFields (parse ws .header .full ∷ parse ws .header .used ∷ parse ws .header .spread ∷ []))) (em ∙ ap₂ (λ n b. splice ws n (bucketWords b)) (q ∙ bucket-offset) held)
         ∙ sym (words-held ws (open-good ws v o) l i a c t in-wall e z))
         ∙ done (kept-plain e z)
 
@@ -237,7 +237,7 @@ module _ (ws : List ℕ) (v : Wall) (i a c : ℕ) (r : Ready ws v i a c) where
     pub step-over : (m n : List ℕ) (at to : ℕ) (x : Bucket) → flag b ≡ 0 → noRoom (parse ws) i a c ≡ true → (v .used ≡ v .full → ⊥)
         → at ≡ 4 + i * bucketLength (headerOf v) → x ≡ overflowed b (v .used) → m ≡ splice ws at (bucketWords x)
         → to ≡ 4 + (bucketsIn (headerOf v) * bucketLength (headerOf v) + v .used * 65) → n ≡ splice m to (fullWords (moveIn emptyFull a c))
-        → record { number = 0; value = c; words = set (set n 2 t) 3 (joinFields fullFields (v .full ∷ (v .used + 1) ∷ v .spare ∷ [])) } ≡ stepIn ws i a c t
+        → record { number = 0; value = c; words = set (set n 2 t) 3 (joinFields fullFields (v .full ∷ (v .used + 1) ∷ v .spread ∷ [])) } ≡ stepIn ws i a c t
     step-over m n at to x e z f q eb em p en =
         let u : parse ws .header .used < parse ws .header .full = omega (arith, used-at, full-at, open-limits ws v o .spare-full, (let y : ¬ (v .used ≡ v .full) = f in y)) in
         let over : x ≡ overflowed b (parse ws .header .used) = eb ∙ ap (overflowed b) used-at in
@@ -246,7 +246,7 @@ module _ (ws : List ℕ) (v : Wall) (i a c : ℕ) (r : Ready ws v i a c) where
         en ∙ ap₂ (λ x k. splice x k (fullWords (moveIn emptyFull a c))) (em ∙ ap₂ (λ n b. splice ws n (bucketWords b)) (q ∙ bucket-offset) over)
         (p ∙ full-offset (v .used) ∙ ap (λ u. 4 + (bucketsIn (parse ws .header) * bucketLength (parse ws .header) + u * 65)) used-at) in
         ap (λ (x : List ℕ). record { number = 0; value = c; words = x })
-        (totals-at n (λ u. u + 1) ∙ ap (λ x. set (set x 2 t) 3 (joinFields fullFields (parse ws .header .full ∷ (parse ws .header .used + 1) ∷ parse ws .header .spare ∷ []))) words
+        (totals-at n (λ u. u + 1) ∙ ap (λ x. set (set x 2 t) 3 (joinFields fullFields (parse ws .header .full ∷ (parse ws .header .used + 1) ∷ parse ws .header .spread ∷ []))) words
         ∙ sym (words-over ws (open-good ws v o) l i a c t in-wall e z u))
         ∙ done (and-no (overflows (parse ws) i a c) (parse ws .header .used) (parse ws .header .full) (λ y. omega arith))
 
@@ -256,14 +256,14 @@ module _ (ws : List ℕ) (v : Wall) (i a c : ℕ) (r : Ready ws v i a c) where
 
     pub step-moved : (m : List ℕ) (at : ℕ) → flag b ≡ 1 → at ≡ 4 + (bucketsIn (headerOf v) * bucketLength (headerOf v) + fullNumber b * 65)
         → m ≡ splice ws at (fullWords (moveIn (fullAt ws at) a c))
-        → record { number = 0; value = c; words = set (set m 2 t) 3 (joinFields fullFields (v .full ∷ v .used ∷ v .spare ∷ [])) } ≡ stepIn ws i a c t
+        → record { number = 0; value = c; words = set (set m 2 t) 3 (joinFields fullFields (v .full ∷ v .used ∷ v .spread ∷ [])) } ≡ stepIn ws i a c t
     step-moved m at e q em =
         let j : fullNumber b < v .full = le-trans (number-used e) (open-limits ws v o .spare-full) in
         let f : fullAt ws at ≡ fullFor (parse ws) i =
         ap (fullAt ws) q ∙ full-here ws v o (fullNumber b) j ∙ sym (ap (λ m. byMark m emptyFull (getD (parse ws .fulls) (fullNumber b) emptyFull)) e) in
         let k : fullNumber b < parse ws .header .full = omega (arith, full-at) in
         ap (λ (x : List ℕ). record { number = 0; value = c; words = x })
-        (totals-at m (λ u. u) ∙ ap (λ x. set (set x 2 t) 3 (joinFields fullFields (parse ws .header .full ∷ parse ws .header .used ∷ parse ws .header .spare ∷ [])))
+        (totals-at m (λ u. u) ∙ ap (λ x. set (set x 2 t) 3 (joinFields fullFields (parse ws .header .full ∷ parse ws .header .used ∷ parse ws .header .spread ∷ [])))
         (em ∙ ap₂ (λ n g. splice ws n (fullWords (moveIn g a c))) (q ∙ full-offset (fullNumber b)) f)
         ∙ sym (words-moved ws (open-good ws v o) l i a c t in-wall 0 e k))
         ∙ done (ap (λ m. byMark m (noRoom (parse ws) i a c) false && eqb (parse ws .header .used) (parse ws .header .full)) e)

@@ -3,7 +3,7 @@ use layout::Wall;
 use shapes::Shape;
 ghost use mathlib.Core.Path.{_≡_};
 ghost use mathlib.Core.List.{[], _∷_};
-ghost use Prim.Native.Nat.{_≤_};
+ghost use Prim.Native.Nat.{_≤_, _<_, _^_};
 ghost use lib.ListN.{getD, length, set};
 ghost use Rattle.answer.specs.Answers.{outcomeOf};
 ghost use Rattle.model.specs.Packed.{joinFields};
@@ -11,13 +11,13 @@ ghost use Rattle.model.specs.Walls.{fullFields, parse};
 ghost use Rattle.model.specs.Sound.{bucketAt, countsAt, flag};
 ghost use Rattle.steps.specs.Step.{Ready, stepIn};
 
-// The total and U in words 2 and 3. A good header shows what this asks.
+// The total and U in words 2 and 3, where J and the spread stay. A good header shows what this asks.
 pub fn put_totals(words: &mut [u64], v: Wall, total: u64, used: u64)
-    requires { ⌜ (4 ≤ length (now words)) × (v .full ≤ 4096) × (used ≤ 4096) × (v .spare ≡ 0) ⌝ }
-    ensures { λ _. ⌜ now (words .exit) ≡ set (set (now (words .entry)) 2 total) 3 (joinFields fullFields (v .full ∷ used ∷ v .spare ∷ [])) ⌝ }
+    requires { ⌜ (4 ≤ length (now words)) × (v .full ≤ 4096) × (used ≤ 4096) × (v .spread < 2 ^ 32) ⌝ }
+    ensures { λ _. ⌜ now (words .exit) ≡ set (set (now (words .entry)) 2 total) 3 (joinFields fullFields (v .full ∷ used ∷ v .spread ∷ [])) ⌝ }
 {
     words[2] = total;
-    words[3] = v.full + used * 65536;
+    words[3] = v.full + used * 65536 + v.spread * 4294967296;
 }
 
 // Place `at` of bucket i, which has no flag, comes to a count that carries: its levels have room for it, or the bucket overflows into

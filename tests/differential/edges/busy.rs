@@ -1,6 +1,6 @@
 //! Both sides of each edge of the busy list.
 
-use super::{Row, Run};
+use super::{Row, Run, CROWD};
 use crate::store::Answer;
 
 /// What stands in a list before the call.
@@ -24,7 +24,7 @@ impl Row<'_> {
     }
 
     /// Busy that lists these entries, over lists that are too short for them, just long enough, and longer.
-    fn lists(&mut self, words: &[u64], floor: u64, entries: &[u64]) {
+    pub(super) fn lists(&mut self, words: &[u64], floor: u64, entries: &[u64]) {
         let needed = entries.len();
         let flows = needed as u64 / 2;
         for length in [needed, needed + 1, needed + 2, 128, 129] {
@@ -38,7 +38,7 @@ impl Row<'_> {
     }
 
     /// Busy on words that the check refuses with this number, whether a list would do or not.
-    fn lists_nothing(&mut self, words: &[u64], number: u64) {
+    pub(super) fn lists_nothing(&mut self, words: &[u64], number: u64) {
         for floor in [0, 1, u64::MAX] {
             for length in [0, 1, 2, 128, 1024] {
                 self.busy(words, floor, length, (number, 0), &[]);
@@ -70,7 +70,7 @@ pub(super) const ROWS: &[(&str, Run)] = &[
     }),
     ("busy in rising flow number, over 8 buckets", |row, pen| {
         let words = pen.words(44, true);
-        row.answers("raise", (row.store.raise)(words, 3, 1, 9, 100, 0), (0, 0));
+        row.answers("raise", (row.store.raise)(words, 3, 1, 9, 100, 0, 0), (0, 0));
         // slots 511, 256, 32 and 0
         for (flow, count) in [(511, 3), (1, 2), (8, 4), (0, 1)] {
             row.to(words, flow, 0, count);
@@ -82,7 +82,7 @@ pub(super) const ROWS: &[(&str, Run)] = &[
     }),
     ("busy of moved places and of others in their bucket", |row, pen| {
         let words = row.raise(pen, 74, 100, 1, 0);
-        row.crowd(words);
+        row.crowd(words, CROWD);
         let mut entries: Vec<u64> = (0..15).flat_map(|flow| [flow, 2]).collect();
         row.lists(words, 2, &entries);
         row.to(words, 15, 1, 2);
@@ -96,7 +96,7 @@ pub(super) const ROWS: &[(&str, Run)] = &[
     }),
     ("busy gives 7, 9 and 13 as the check does, 9 without the bucket, before 14", |row, pen| {
         let words = pen.words(44, true);
-        row.answers("raise", (row.store.raise)(words, 3, 1, 9, 100, 0), (0, 0));
+        row.answers("raise", (row.store.raise)(words, 3, 1, 9, 100, 0, 0), (0, 0));
         row.to(words, 1, 0, 2);
         for (at, word, checked) in [(0, 0, (7, 0)), (1, 1, (7, 0)), (2, 1, (9, 4)), (2, 3, (13, 0)), (4, 1, (13, 0)), (43, 1 << 41, (9, 7))] {
             let sound = std::mem::replace(&mut words[at], word);

@@ -37,7 +37,7 @@ loop-holds c =
     (zero-le, refl, refl, refl, le-trans (le-of-eq (flows-of ws v (s .pre .0))) (pow-mono (open-known ws v (s .pre .0) .bits-high)))
 
 count-of-requires : tie.Need-count-of-requires Inv-loop μ-loop
-count-of-requires c κs = let s = c .before .before .before .before in (s .pre .0, s .pre .1)
+count-of-requires c κs = let s = c .before .before .before .before in (s .pre .0, s .pre .1, next c)
 
 put-requires : tie.Need-put-requires Inv-loop μ-loop
 put-requires c κs =

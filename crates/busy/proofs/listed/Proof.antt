@@ -5,19 +5,20 @@ use mathlib.Core.Path.{_≡_, refl, sym, ap, _∙_, subst}
 use mathlib.Core.Logic.{⊎-elim}
 use mathlib.Core.List.{List}
 use Prim.Native.Nat.{ℕ, _+_, _-_, _/_, _%_, _≤_, _<_}
-use lib.Dec.{leb, lit<, le→leb}
+use lib.Dec.{T, leb, lit<, le→leb}
 use lib.Arith.{lt→nleb}
 use lib.ListN.{getD}
 use lib.Pow.{pow-mono}
 use Rattle.model.specs.Lists.{oneIf, sum, tabulate}
-use Rattle.model.specs.Walls.{bucketsIn, flows, parse}
+use Rattle.model.specs.Slots.{validSpread}
+use Rattle.model.specs.Walls.{Header, bucketsIn, flows, parse}
 use Rattle.model.specs.Sound.{countsAt}
 use Rattle.model.proofs.Crowding.{T-true, T-false}
 use Rattle.model.proofs.Headers.{slot-bucket}
 use Rattle.model.proofs.SoundWalls.{each-sound}
 use Rattle.model.proofs.BusyLists.{busy-slots}
 use Rattle.layout.specs.Views.{headerOf}
-use Rattle.header.proofs.Places.{open-known, open-header}
+use Rattle.header.proofs.Places.{open-known, open-limits, open-header}
 use Rattle.found.proofs.Finding.{flows-of}
 use Rattle.whole.proofs.Holding.{sum-last}
 use Rattle.busy.proofs.listed.Statement.{statement}
@@ -77,10 +78,12 @@ loop-again c =
 returns : tie.Need-returns Inv-loop μ-loop
 returns c =
     let l = c .before .loop in
-    let a = c .before .before .before .before .args in
+    let s = c .before .before .before .before in
+    let a = s .args in
     let ws = a .words .now in
+    let valid = subst (λ (h : Header). T (validSpread (h .bits) (h .spread))) (open-header ws (a .v) (s .pre .0)) (open-limits ws (a .v) (s .pre .0) .spread-valid) in
     let e : l .slot ≡ flows (parse ws .header) = omega (arith, l .inv .0, l .inv .3, c .loop-test .left) in
-    (l .inv .1 ∙ ap (λ n. sum (tabulate n (reaches ws (a .floor)))) e ∙ sym (busy-slots (parse ws) (a .floor)), omega (arith, l .inv .0, l .inv .2, l .inv .4))
+    (l .inv .1 ∙ ap (λ n. sum (tabulate n (reaches ws (a .floor)))) e ∙ sym (busy-slots (parse ws) valid (a .floor)), omega (arith, l .inv .0, l .inv .2, l .inv .4))
 
 pub listed-spec : {M : Type 1} → statement M
 listed-spec =

@@ -4,11 +4,12 @@ use Rattle.model.specs.Walls.{bucketsIn}
 use Rattle.model.proofs.Tools.{and-tests}
 use native.Mathlib.Omega.{arith}
 use mathlib.Core.Path.{_∙_}
+use Rattle.model.specs.Slots.{validSpread}
 use Rattle.model.specs.Walls.{limitFits, fullFits}
 use Rattle.model.proofs.Headers.{limit-test, full-test}
 use Rattle.layout.specs.Views.{headerOf}
 use Rattle.layout.proofs.Tests.{passed}
-use Rattle.header.proofs.Opening.{fails-test, fails-fact, fails-length, passes}
+use Rattle.header.proofs.Opening.{fails-test, fails-fact, fails-length, passes, spread-test}
 use Rattle.header.proofs.open_sized.Statement.{statement}
 use Rattle.header.proofs.open_sized.Tie as tie
 
@@ -38,10 +39,13 @@ returns-4 c =
     let s = c .before .before .before .before .before .before .before .before .before in
     fails-fact (s .args .words .now) (s .args .v) (s .pre .2) (λ l. omega (arith, l .spare-full))
 
+valid-requires : tie.Need-valid-requires
+valid-requires c κs = search needs
+
 returns-5 : tie.Need-returns-5
 returns-5 c =
     let s = c .before .before .before .before .before .before .before .before .before .before .before in
-    fails-fact (s .args .words .now) (s .args .v) (s .pre .2) (λ l. c .if5 .taken (l .spare-none))
+    fails-test (s .args .words .now) (s .args .v) (s .pre .2) (λ h. validSpread (h .bits) (h .spread)) spread-test (c .before .valid .result) (c .before .valid .ensures) (c .if5 .taken)
 
 size-requires : tie.Need-size-requires
 size-requires c κs =
@@ -60,7 +64,7 @@ returns-7 c =
     let v = s .args .v in
     let l = passed (c .before .before .before .before .before .before .before .before .before .before .before .limit-fits .result) (limitFits (headerOf v)) (c .before .before .before .before .before .before .before .before .before .before .before .limit-fits .ensures) (c .before .before .before .before .before .before .before .before .before .before .if1 .left) in
     let f = passed (c .before .before .before .before .before .before .before .before .before .full-fits .result) (fullFits (headerOf v)) (c .before .before .before .before .before .before .before .before .before .full-fits .ensures) (c .before .before .before .before .before .before .before .before .if2 .left) in
-    passes (s .args .words .now) v (s .pre .2) (s .pre .1) (s .pre .0) l f (c .before .before .before .before .before .before .if3 .left) (c .before .before .before .before .if4 .left) (c .before .before .if5 .left) (c .if6 .left ∙ c .before .size .ensures)
+    passes (s .args .words .now) v (s .pre .2) (s .pre .1) (s .pre .0) l f (c .before .before .before .before .before .before .if3 .left) (c .before .before .before .before .if4 .left) (passed (c .before .before .before .valid .result) (validSpread (v .bits) (v .spread)) (c .before .before .before .valid .ensures) (c .before .before .if5 .left)) (c .if6 .left ∙ c .before .size .ensures)
 
 pub open-sized-spec : {M : Type 1} → statement M
 open-sized-spec =
@@ -72,6 +76,7 @@ open-sized-spec =
     returns-2
     returns-3
     returns-4
+    valid-requires
     returns-5
     size-requires
     returns-6

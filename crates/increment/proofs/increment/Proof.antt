@@ -1,7 +1,7 @@
 use Rattle.increment.proofs.Raising.{increment-refuses, increment-at}
 use Rattle.increment.specs.OneMore.{oneMore}
 use Rattle.model.proofs.Meets.{meets-7, meets-8}
-use Rattle.found.proofs.Finding.{flows-of, bucket-of, place-of, bucket-in}
+use Rattle.found.proofs.Finding.{flows-of, slot-asks, bucket-of, place-of, bucket-in}
 use Rattle.header.proofs.Places.{open-known}
 use Rattle.header.proofs.Opening.{is-open, not-opened}
 use Rattle.header.specs.Headers.{Open}
@@ -10,7 +10,7 @@ use Rattle.model.specs.Calls.{stepRefusals}
 use Rattle.model.specs.Walls.{parse, flows}
 use lib.Dec.{lit<}
 use Prim.Native.Nat.{_/_, _^_, _≤_, _<_}
-use mathlib.Core.Path.{_≡_, sym, ap₂, _∙_, subst}
+use mathlib.Core.Path.{sym, ap₂, _∙_, subst}
 use native.Mathlib.Nat.{mod-lt}
 use native.Mathlib.Omega.{arith}
 use borrow.Author.Needs.{needs}
@@ -24,7 +24,7 @@ use Rattle.header.proofs.open.Reads as open-reads
 use Rattle.increment.proofs.one_more_flagged.Reads as one-more-flagged-reads
 use Rattle.increment.proofs.one_more_plain.Reads as one-more-plain-reads
 use Rattle.packed.proofs.pow2.Reads as pow2-reads
-use Rattle.reversal.proofs.reversed.Reads as reversed-reads
+use Rattle.spreads.proofs.slot_of.Reads as slot-of-reads
 
 opens : (c : tie.After-known-told) → Open (c .before .before .before .before .before .before .args .words .now) (c .before .v .given .0 .0)
 opens c = is-open (c .before .before .before .before .before .before .args .words .now) (c .before .v .given .0 .0) (sym (c .before .v .given .1) ∙ c .before .before .before .«open» .ensures)
@@ -72,13 +72,11 @@ returns-2 c =
     let o = opens (c .before .before .before) in
     said (c .refused2 .result) 8 0 ws (c .refused2 .ensures) ∙ increment-refuses ws y 8 (lit< tt) (meets-8 ws y (stepRefusals (parse ws) y) (o .good) (omega (arith, flows-of ws v o, c .before .before .pow2 .ensures .0, c .before .if1 .taken)))
 
-reversed-requires : tie.Need-reversed-requires
-reversed-requires c κs =
+slot-of-requires : tie.Need-slot-of-requires
+slot-of-requires c κs =
     let s = c .before .before .before .before .before .before .before .before in
-    let ws = s .args .words .now in
-    let v = c .before .before .before .v .given .0 .0 in
-    let o = opens (c .before .before) in
-    omega (arith, open-known ws v o .bits-high)
+    let q = slot-asks (s .args .words .now) (c .before .before .before .v .given .0 .0) (opens (c .before .before)) (s .args .flow) (flow c) in
+    (q .0, omega (arith, q .1), q .2)
 
 packed-word-requires : tie.Need-packed-word-requires
 packed-word-requires c κs =
@@ -87,7 +85,7 @@ packed-word-requires c κs =
     let y = s .args .flow in
     let v = c .before .before .before .before .before .v .given .0 .0 in
     let o = opens (c .before .before .before .before) in
-    let r = c .before .reversed in
+    let r = c .before .slot-of in
     (o, bucket-in ws v o y (r .result) (r .ensures .0))
 
 one-more-plain-requires : tie.Need-one-more-plain-requires
@@ -97,7 +95,7 @@ one-more-plain-requires c κs =
     let y = s .args .flow in
     let v = c .before .before .before .before .before .before .before .before .v .given .0 .0 in
     let o = opens (c .before .before .before .before .before .before .before) in
-    let r = c .before .before .before .before .reversed in
+    let r = c .before .before .before .before .slot-of in
     (o, bucket-in ws v o y (r .result) (r .ensures .0), mod-lt (r .result) (lit< tt), subst (λ x. x / 2 ^ 40 ≤ 0) (c .before .before .packed-word .ensures) (omega (arith, c .before .if2 .taken)))
 
 same-length-3 : tie.Need-same-length-3
@@ -110,7 +108,7 @@ returns-3 c =
     let y = s .args .flow in
     let v = c .before .before .before .before .before .before .before .before .before .before .before .v .given .0 .0 in
     let o = opens (c .before .before .before .before .before .before .before .before .before .before) in
-    let r = c .before .before .before .before .before .before .before .reversed in
+    let r = c .before .before .before .before .before .before .before .slot-of in
     c .before .before .one-more-plain .ensures ∙ ap₂ (oneMore ws) (bucket-of ws v o y (r .result) (r .ensures .0)) (place-of ws v o y (r .result) (r .ensures .0)) ∙ increment-at ws y (o .good) (flow (c .before .before .before .before .before .before .before .before))
 
 one-more-flagged-requires : tie.Need-one-more-flagged-requires
@@ -120,7 +118,7 @@ one-more-flagged-requires c κs =
     let y = s .args .flow in
     let v = c .before .before .before .before .before .before .before .before .v .given .0 .0 in
     let o = opens (c .before .before .before .before .before .before .before) in
-    let r = c .before .before .before .before .reversed in
+    let r = c .before .before .before .before .slot-of in
     (o, bucket-in ws v o y (r .result) (r .ensures .0), mod-lt (r .result) (lit< tt), c .before .before .packed-word .ensures, omega (arith, c .before .if2 .left))
 
 same-length-4 : tie.Need-same-length-4
@@ -133,7 +131,7 @@ returns-4 c =
     let y = s .args .flow in
     let v = c .before .before .before .before .before .before .before .before .before .before .before .v .given .0 .0 in
     let o = opens (c .before .before .before .before .before .before .before .before .before .before) in
-    let r = c .before .before .before .before .before .before .before .reversed in
+    let r = c .before .before .before .before .before .before .before .slot-of in
     c .before .before .one-more-flagged .ensures ∙ ap₂ (oneMore ws) (bucket-of ws v o y (r .result) (r .ensures .0)) (place-of ws v o y (r .result) (r .ensures .0)) ∙ increment-at ws y (o .good) (flow (c .before .before .before .before .before .before .before .before))
 
 pub increment-spec : {M : Type 1} → statement M
@@ -150,7 +148,7 @@ increment-spec =
     refused-requires-2
     same-length-2
     returns-2
-    reversed-requires
+    slot-of-requires
     packed-word-requires
     one-more-plain-requires
     same-length-3

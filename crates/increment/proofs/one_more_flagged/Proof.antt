@@ -1,7 +1,7 @@
 use Rattle.steps.proofs.Writing.{ready, flag-here, number-used, full-inside, step-moved}
 use Rattle.increment.proofs.Raising.{at-nine, at-ten, at-step, one-more-fits}
 use Rattle.steps.specs.Step.{stepIn}
-use Rattle.header.proofs.Places.{open-good, open-known, open-header, open-limits, count-end-most}
+use Rattle.header.proofs.Places.{open-good, open-known, open-header, open-limits, open-spread, count-end-most}
 use Rattle.uppers.proofs.Verdicts.{said-sound, said-not}
 use Rattle.answer.proofs.Said.{said}
 use Rattle.layout.specs.Views.{headerOf}
@@ -145,7 +145,7 @@ put-totals-requires c κs =
     let a = s .args .at in
     let o = s .pre .0 in
     let l = open-limits ws v o in
-    (omega (arith, open-good ws v o .long, c .before .before .before .before .move-in .kept .0), l .full-most, omega (arith, l .full-most, l .spare-full), l .spare-none)
+    (omega (arith, open-good ws v o .long, c .before .before .before .before .move-in .kept .0), l .full-most, omega (arith, l .full-most, l .spare-full), open-spread ws v o)
 
 done-requires : tie.Need-done-requires
 done-requires c κs = search needs

@@ -16,7 +16,7 @@ use Rattle.header.specs.Headers.{Open}
 use Rattle.header.proofs.Opening.{is-open, not-opened}
 use Rattle.header.proofs.Places.{open-known}
 use Rattle.model.proofs.Meets.{meets-7, meets-8, meets-9, meets-none}
-use Rattle.found.proofs.Finding.{flows-of, bucket-of, place-of, bucket-in, count-of}
+use Rattle.found.proofs.Finding.{flows-of, slot-asks, bucket-of, place-of, bucket-in, count-of}
 use Rattle.lookup.proofs.Answers.{lookup-refuses, lookup-done}
 use Rattle.lookup.proofs.lookup.Statement.{statement}
 use Rattle.lookup.proofs.lookup.Tie as tie
@@ -36,7 +36,7 @@ asked c =
     let y = s .args .flow in
     let v = c .before .before .before .before .before .v .given .0 .0 in
     let o = opens (c .before .before .before .before) in
-    let r = c .before .reversed in
+    let r = c .before .slot-of in
     c .read .ensures ∙ ap₂ verdict (ap (soundAt (parse ws)) (bucket-of ws v o y (r .result) (r .ensures .0))) (count-of ws y (r .result / 64) (r .result % 64) (bucket-of ws v o y (r .result) (r .ensures .0)) (place-of ws v o y (r .result) (r .ensures .0)))
 
 told : (c : tie.After-known-told2) → (soundAt (parse (c .before .before .before .before .before .before .before .before .before .before .before .before .args .words .now)) (bucketOf ((parse (c .before .before .before .before .before .before .before .before .before .before .before .before .args .words .now)) .header) (c .before .before .before .before .before .before .before .before .before .before .before .before .args .flow)) ≡ true) × (count (parse (c .before .before .before .before .before .before .before .before .before .before .before .before .args .words .now)) (c .before .before .before .before .before .before .before .before .before .before .before .before .args .flow) ≡ c .before .count .given .0 .0)
@@ -81,13 +81,11 @@ returns-2 c =
     let o = opens (c .before .before .before) in
     said (c .refused2 .result) 8 0 ws (c .refused2 .ensures) ∙ lookup-refuses ws y 8 (lit< tt) (meets-8 ws y [] (o .good) (omega (arith, flows-of ws v o, c .before .before .pow2 .ensures .0, c .before .if1 .taken)))
 
-reversed-requires : tie.Need-reversed-requires
-reversed-requires c κs =
+slot-of-requires : tie.Need-slot-of-requires
+slot-of-requires c κs =
     let s = c .before .before .before .before .before .before .before in
-    let ws = s .args .words .now in
-    let v = c .before .before .before .v .given .0 .0 in
-    let o = opens (c .before .before) in
-    omega (arith, open-known ws v o .bits-high)
+    let q = slot-asks (s .args .words .now) (c .before .before .before .v .given .0 .0) (opens (c .before .before)) (s .args .flow) (flow c) in
+    (q .0, omega (arith, q .1), q .2)
 
 read-requires : tie.Need-read-requires
 read-requires c κs =
@@ -96,7 +94,7 @@ read-requires c κs =
     let y = s .args .flow in
     let v = c .before .before .before .before .v .given .0 .0 in
     let o = opens (c .before .before .before) in
-    let r = c .reversed in
+    let r = c .slot-of in
     (o, bucket-in ws v o y (r .result) (r .ensures .0), mod-lt (r .result) (lit< tt))
 
 enum-known-count : tie.Need-enum-known-count
@@ -143,7 +141,7 @@ lookup-spec =
     pow2-requires
     refused-requires-2
     returns-2
-    reversed-requires
+    slot-of-requires
     read-requires
     enum-known-count
     enum-told-2

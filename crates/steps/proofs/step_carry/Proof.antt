@@ -1,5 +1,5 @@
 use Rattle.steps.proofs.Writing.{shape-fits, inside, lies, raises, room-found, none-found, over-of, held-of, step-held, step-twelve, step-over}
-use Rattle.header.proofs.Places.{open-good, open-known, open-limits, full-within}
+use Rattle.header.proofs.Places.{open-good, open-known, open-limits, open-spread, full-within}
 use Rattle.bucket.specs.Raise.{RaisesIn}
 use Rattle.bucket.specs.Views.{asBucket}
 use Rattle.shapes.specs.Shapes.{rowsIn}
@@ -132,7 +132,7 @@ put-totals-requires c κs =
     let n = s .args .count in
     let r = s .pre .0 in
     let l = open-limits ws v (r .header) in
-    (omega (arith, open-good ws v (r .header) .long, c .before .before .before .store .kept .1 .0), l .full-most, omega (arith, l .full-most, l .spare-full), l .spare-none)
+    (omega (arith, open-good ws v (r .header) .long, c .before .before .before .store .kept .1 .0), l .full-most, omega (arith, l .full-most, l .spare-full), open-spread ws v (r .header))
 
 done-requires : tie.Need-done-requires
 done-requires c κs = search needs
@@ -245,7 +245,7 @@ put-totals-requires-2 c κs =
     let n = s .args .count in
     let r = s .pre .0 in
     let l = open-limits ws v (r .header) in
-    (omega (arith, open-good ws v (r .header) .long, c .before .before .before .before .before .before .before .before .before .store2 .kept .1 .0, c .before .before .before .before .move-first .kept .0), l .full-most, omega (arith, l .full-most, l .spare-full, c .before .before .before .before .before .before .before .before .before .before .before .before .if2 .left), l .spare-none)
+    (omega (arith, open-good ws v (r .header) .long, c .before .before .before .before .before .before .before .before .before .store2 .kept .1 .0, c .before .before .before .before .move-first .kept .0), l .full-most, omega (arith, l .full-most, l .spare-full, c .before .before .before .before .before .before .before .before .before .before .before .before .if2 .left), open-spread ws v (r .header))
 
 done-requires-2 : tie.Need-done-requires-2
 done-requires-2 c κs = search needs

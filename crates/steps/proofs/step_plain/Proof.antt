@@ -1,5 +1,5 @@
 use Rattle.steps.proofs.Writing.{inside, lies, raises, stays, stays-room, held-of, step-held}
-use Rattle.header.proofs.Places.{open-good, open-known, open-limits}
+use Rattle.header.proofs.Places.{open-good, open-known, open-limits, open-spread}
 use Rattle.bucket.specs.Raise.{RaisesIn, Stays}
 use Rattle.bucket.specs.Views.{bucketIn}
 use Rattle.shapes.specs.Shapes.{rowsIn}
@@ -82,7 +82,7 @@ put-totals-requires c κs =
     let n = s .args .count in
     let r = s .pre .0 in
     let l = open-limits ws v (r .header) in
-    (omega (arith, open-good ws v (r .header) .long, c .before .before .before .step-first .kept .0), l .full-most, omega (arith, l .full-most, l .spare-full), l .spare-none)
+    (omega (arith, open-good ws v (r .header) .long, c .before .before .before .step-first .kept .0), l .full-most, omega (arith, l .full-most, l .spare-full), open-spread ws v (r .header))
 
 done-requires : tie.Need-done-requires
 done-requires c κs = search needs
