@@ -13,7 +13,7 @@ wall_answer plain_check(const uint64_t *words, size_t length);
 wall_answer plain_busy(const uint64_t *words, size_t length, uint64_t floor, uint64_t *list, size_t list_length);
 wall_answer plain_close(uint64_t *words, size_t length);
 
-/* The flow with its bits in reverse order, or its product with an odd spread. */
+/* The flow with its bits in reverse order, or its product with an odd spread, mod 2^bits. */
 uint64_t plain_slot(unsigned bits, uint64_t spread, uint64_t flow);
 
 #endif

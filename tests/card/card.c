@@ -214,12 +214,12 @@ static void refusals(uint64_t *words)
 /* The readers read their own bits, whatever stands beside them. */
 static void readers(void)
 {
-    const uint64_t words[] = {UINT64_MAX, UINT64_MAX, 7, UINT64_C(0xFEDCBA981000FFFF)};
+    const uint64_t words[] = {UINT64_MAX, UINT64_MAX, 7, UINT64_C(0xFEDCBA991000FFFF)};
     SAME("total", WALL_TOTAL(words), 7);
     SAME("U", WALL_IN_USE(words), WALL_MAX_FULL);
     SAME("U", WALL_IN_USE(words + 0) * 2, 2 * WALL_MAX_FULL);
-    SAME("spread", WALL_SPREAD(words), UINT64_C(0xFEDCBA98));
-    SAME("spread", WALL_SPREAD(words + 0) * 2, 2 * UINT64_C(0xFEDCBA98));
+    SAME("spread", WALL_SPREAD(words), UINT64_C(0xFEDCBA99));
+    SAME("spread", WALL_SPREAD(words + 0) * 2, 2 * UINT64_C(0xFEDCBA99));
 }
 
 /* A wall of each shape and width: as many words and as high a limit as the header says, and one more. */

@@ -1,4 +1,4 @@
-//! "Both sides of each edge" of the scope of work: each row is run on both stores, and the numbers and words expected are those of its text.
+//! "Both sides of each edge" of the scope of work, and of the requests: each row is run on both stores, and the numbers and words expected are those of its text.
 //!
 //! Shape 3, w1 1, b 6, M 100, J 0, spread 0 unless said. A wall of these is four words of header, then A1, I1, A2, A3 and the packed word.
 

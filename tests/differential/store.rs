@@ -1,7 +1,7 @@
 //! The counter store a second time, written from the text of the scope of work and of the requests, and from nothing under crates/.
 //!
 //! It is slow and plain on purpose. A bucket is taken out of a wall as one list per level, holding the entries in use and their marks; a counter that grows into
-//! a level is inserted into that level's list. Each answer is a number of the document's table and a value. Sums are made in 128 bits.
+//! a level is inserted into that level's list. Each answer is a number of the documents and a value. Sums are made in 128 bits.
 
 pub type Answer = (u64, u64);
 

@@ -159,7 +159,7 @@ demand-one = record {
   increment-call = λ ws y. answered (bucketRefusals ws y ++ stepRefusals (parse ws) y) _ _ ws tt;
   check-call = checked;
   busy-call = λ ws floor list. answered (busyRefusals ws floor list) _ _ list tt;
-  default = λ p b m j s ws. (refl, refl);
+  default = λ p b l j m ws. (refl, refl);
   kept = lookup-words;
   eleven = never-eleven;
 }

@@ -7,17 +7,16 @@ use Prim.Native.Nat.{ℕ, zero, suc, _+_, _-_, _*_, _/_, _%_, _^_, _≤_, _<_}
 use native.Mathlib.Nat.{mul-one, mod-eq-of-lt}
 use native.Mathlib.Decide.{decLt}
 use native.Mathlib.Omega.{arith}
-use lib.Dec.{T, eqb, ltb, T-not, not-T, eqb→eq, ltb→lt, lt→ltb}
+use lib.Dec.{T, T-not, not-T}
 use lib.ListN.{getD}
 use lib.Pow.{mod-mod-pow}
 use Rattle.model.specs.Slots.{slot, validSpread}
 use Rattle.model.specs.Walls.{Header, Wall, good, readHeader, parse}
 use Rattle.model.specs.Calls.{asked, refuse, raise, close, increment}
 use Rattle.model.specs.Runs.{run}
-use Rattle.model.proofs.Slots.{slot-lt, undoing, valid-undoing, flow-slot, slot-flow, slot-inj}
+use Rattle.model.proofs.Slots.{slot-lt, undoing, valid-undoing, flow-slot, slot-flow, slot-inj, spread-facts, facts-spread}
 use Rattle.model.proofs.Spreads.{times-mod}
-use Rattle.model.proofs.Tools.{and-tests, tests-and}
-use Rattle.model.proofs.Headers.{good-of, eq-eqb}
+use Rattle.model.proofs.Headers.{good-of}
 use Rattle.model.proofs.SoundWalls.{parse-header}
 use Rattle.model.proofs.Demand2.{follows}
 use Rattle.demands.specs.DemandThree.{Listed, After}
@@ -54,19 +53,13 @@ refused : (b m : ℕ) → T (not (validSpread b m)) ↔ ((m ≢ 0) × ((m % 2 �
 refused b zero = ((λ t. absurd t), (λ f. absurd (f .0 refl)))
 refused b (suc m) = (
   (λ t. ((λ e. omega (arith, e)), go t (decLt (suc m) (2 ^ b)) (decLt (suc m % 2) 1))),
-  (λ f. not-T (validSpread b (suc m)) (λ t.
-      let u = and-tests (eqb (suc m % 2) 1) (ltb (suc m) (2 ^ b)) t in
-      let o : suc m % 2 ≡ 1 = eqb→eq (suc m % 2) 1 (u .0) in
-      let l : suc m < 2 ^ b = ltb→lt (suc m) (2 ^ b) (u .1) in
-      ⊎-elim (λ e. omega (arith, o, e)) (λ h. omega (arith, l, h)) (f .1))),
+  (λ f. not-T (validSpread b (suc m)) (λ t. let u = spread-facts b m t in ⊎-elim (λ e. omega (arith, u .0, e)) (λ h. omega (arith, u .1, h)) (f .1))),
 )
   where
     go : T (not (validSpread b (suc m))) → Dec (suc m < 2 ^ b) → Dec (suc m % 2 < 1) → (suc m % 2 ≡ 0) ⊎ (2 ^ b ≤ suc m)
     go t (no n) d = inr (omega (arith, n))
     go t (yes l) (yes e) = inl (omega (arith, e))
-    go t (yes l) (no n) =
-        let o : suc m % 2 ≡ 1 = omega (arith, n) in
-        absurd (T-not (validSpread b (suc m)) t (tests-and (eqb (suc m % 2) 1) (ltb (suc m) (2 ^ b)) (eq-eqb o) (lt→ltb (suc m) (2 ^ b) l)))
+    go t (yes l) (no n) = absurd (T-not (validSpread b (suc m)) t (facts-spread b (suc m) (omega (arith, n)) l))
 
 foreign : (ws : List ℕ) → T (not (validSpread (readHeader ws .bits) (readHeader ws .spread))) → Foreign ws
 foreign ws t =

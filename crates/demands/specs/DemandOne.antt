@@ -1,4 +1,4 @@
--- Demand 1: every call, on any words and any arguments, has an outcome; its number is that of the first refusal of the document's table
+-- Demand 1: every call, on any words and any arguments, has an outcome; its number is that of the first refusal of the call's list
 -- that is met, and 0 where none is; a number other than 0 comes with the value 0 and leaves the words as they were, 0 with the call's value and words.
 use mathlib.Core.Logic.{_↔_}
 use mathlib.Core.Path.{_≡_}
@@ -61,7 +61,7 @@ pub record DemandOne : Type 0 where
   pub check-call : (ws : List ℕ) → Checks ws (check ws)
   pub busy-call : (ws : List ℕ) (floor : ℕ) (list : List ℕ) → Answers (busyRefusals ws floor list) (length (busyFlows (parse ws) floor)) (written (count (parse ws)) (busyFlows (parse ws) floor) list) list (ofList (busy ws floor list))
   -- width 0 asks for 7
-  pub default : (p b m j s : ℕ) (ws : List ℕ) → (raise (ask p 0 b m j s) ws ≡ raise (ask p 7 b m j s) ws) × (limitsCall p 0 ≡ limitsCall p 7)
+  pub default : (p b l j m : ℕ) (ws : List ℕ) → (raise (ask p 0 b l j m) ws ≡ raise (ask p 7 b l j m) ws) × (limitsCall p 0 ≡ limitsCall p 7)
   -- lookup never changes a word, and number 11 is never given
   pub kept : (ws : List ℕ) (y : ℕ) → lookup ws y .words ≡ ws
   pub eleven : (ws : List ℕ) (y : ℕ) → increment ws y .number ≡ 11 → ⊥

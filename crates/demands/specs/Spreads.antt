@@ -24,7 +24,7 @@ pub record Undone (b m : ℕ) : Type 0 where
   pub valid : T (validSpread b by)
   pub back : (y : ℕ) → y < 2 ^ b → slot b by (slot b m y) ≡ y
 
--- every call over the words answers 7
+-- every call on the words but raise answers 7
 pub record Foreign (ws : List ℕ) : Type 0 where
   pub lookups : (y : ℕ) → lookup ws y .number ≡ 7
   pub increments : (y : ℕ) → increment ws y .number ≡ 7

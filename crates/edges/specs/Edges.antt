@@ -25,7 +25,7 @@ sixteen = tabulate 15 (λ i. i) ++ tabulate 16 (λ i. i)
 abbrev pub bucket : List ℕ → List ℕ
 bucket ws = getD ws 4 0 ∷ getD ws 5 0 ∷ getD ws 6 0 ∷ getD ws 7 0 ∷ getD ws 8 0 ∷ []
 
--- the header's words for the limit m, the total t and the word f of J and U
+-- the header's words for the limit m, the total t and the word f of J, U and the spread
 abbrev pub head : ℕ → ℕ → ℕ → List ℕ
 head m t f = 0x06010300014C5742 ∷ m ∷ t ∷ f ∷ []
 

@@ -3,22 +3,19 @@ use mathlib.Core.Path.{_≡_, sym, ap, ap₂, _∙_, subst}
 use mathlib.Core.Bool.{not}
 use mathlib.Core.List.{List, [], _∷_}
 use Prim.Native.Nat.{ℕ, suc, _+_, _*_, _^_, _≤_, _<_}
-use native.Mathlib.Nat.{le-trans}
 use native.Mathlib.Omega.{arith}
 use lib.Dec.{T, leb, ltb, eqb, leb→le, lt→ltb, lit<}
 use lib.Arith.{le→nltb}
-use lib.Pow.{pow-mono}
 use lib.ListN.{length, set, replicate}
 use Rattle.model.specs.Shapes.{knownShape, widthAsked}
 use Rattle.model.specs.Slots.{knownBits, validSpread}
 use Rattle.model.specs.Walls.{Header, fullWord, withTotals, bucketsIn, bucketLength, wallSize, limitFits, fullFits, readHeader, good, fresh}
 use Rattle.model.specs.Calls.{Refusal, refuse, firstMet, outcome, Ask, asked, raiseRefusals, raise, closeRefusals, close}
 use Rattle.model.proofs.Tools.{to-not-not, and-tests}
-use Rattle.model.proofs.Slots.{spread-lt}
-use Rattle.model.proofs.Parsing.{spread-fits}
+use Rattle.model.proofs.Slots.{spread-fits}
 use Rattle.model.proofs.Headers.{of-good}
 use Rattle.model.proofs.Headers as model
-use Rattle.model.proofs.Refusals.{first-met, first-skip, first-clear, answer-done, answer-refused}
+use Rattle.model.proofs.Refusals.{first-met, first-skip, first-clear, answer-done, refused-as}
 use Rattle.layout.specs.declared.Wall.{Wall}
 use Rattle.layout.specs.Views.{headerOf}
 use Rattle.layout.proofs.Refused.{asked-bounds}
@@ -68,9 +65,6 @@ at-asked f a u e = ap (λ u. f (headerOf (wallAt a u))) e
 pub full-most : (h : Header) → T (fullFits h) → h .full ≤ 4096
 full-most h t = leb→le (h .full) 4096 (and-tests (leb (h .full) (bucketsIn h)) (leb (h .full) 4096) t .1)
 
-pub spread-most : (v : Wall) → Known v → T (validSpread (v .bits) (v .spread)) → v .spread < 2 ^ 32
-spread-most v k t = let h : v .bits ≤ 32 = omega (arith, k .bits-high) in le-trans (spread-lt (v .bits) (v .spread) t) (pow-mono h)
-
 module _ (a : Ask) (ws : List ℕ) where
   abbrev rest : List Refusal
   rest = sizedRefusals (asked a) ws
@@ -86,7 +80,7 @@ module _ (a : Ask) (ws : List ℕ) where
 
   refused : (n : ℕ) → 0 < n → firstMet (raiseRefusals a ws) ≡ n → record { number = n; value = 0; words = ws } ≡ raise a ws
   unfolding raise
-  refused n l e = sym (answer-refused 0 (fresh (asked a)) ws n l) ∙ ap (λ n. outcome n 0 (fresh (asked a)) ws) (sym e)
+  refused = refused-as (raiseRefusals a ws) 0 (fresh (asked a)) ws
 
   pub raise-1 : T (not (knownShape (a .shape))) → record { number = 1; value = 0; words = ws } ≡ raise a ws
   raise-1 t = refused 1 (lit< tt) (first-met [] r1 (r2 ∷ r3 ∷ rest) tt t)
@@ -122,7 +116,7 @@ module _ (h : Header) (ws : List ℕ) where
 
   stops : (n : ℕ) → 0 < n → firstMet (sizedRefusals h ws) ≡ n → record { number = n; value = 0; words = ws } ≡ raiseSized h ws
   unfolding raiseSized
-  stops n l e = sym (answer-refused 0 (fresh h) ws n l) ∙ ap (λ n. outcome n 0 (fresh h) ws) (sym e)
+  stops = refused-as (sizedRefusals h ws) 0 (fresh h) ws
 
   pub sized-4 : T (not (limitFits h)) → record { number = 4; value = 0; words = ws } ≡ raiseSized h ws
   sized-4 t = stops 4 (lit< tt) (first-met [] r4 (r5 ∷ r15 ∷ r6 ∷ []) tt t)
@@ -159,7 +153,7 @@ pub opened-writes : (ws : List ℕ) (v : Wall) → Good v ≡ openedOf ws → Kn
 opened-writes ws v e =
     let o = opened ws v e in
     subst (λ (v : Wall). Known v × (v .full ≤ 4096) × (v .spread < 2 ^ 32) × (length ws ≡ wallSize (headerOf v))) (sym (o .0))
-    (good-known ws (o .1), o .1 .limits .full-most, spread-fits (readHeader ws) (o .1 .limits), o .1 .exact)
+    (good-known ws (o .1), o .1 .limits .full-most, spread-fits (readHeader ws .bits) (readHeader ws .spread) (o .1 .limits .bits-high) (o .1 .limits .spread-valid), o .1 .exact)
 
 pub opened-closes : (ws : List ℕ) (v : Wall) → Good v ≡ openedOf ws → record { number = 0; value = 0; words = fresh (headerOf v) } ≡ close ws
 opened-closes ws v e =

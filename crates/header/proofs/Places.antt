@@ -13,7 +13,8 @@ use Rattle.model.specs.Walls.{Header, Bucket, Wall, bucketsIn, bucketLength, co
 use Rattle.model.specs.Sound.{bucketAt}
 use Rattle.model.proofs.Headers.{Limits, good-of}
 use Rattle.model.proofs.Headers as model
-use Rattle.model.proofs.Parsing.{spread-fits, bucket-at, full-at}
+use Rattle.model.proofs.Slots.{spread-fits}
+use Rattle.model.proofs.Parsing.{bucket-at, full-at}
 use Rattle.model.proofs.SoundWalls.{parse-header}
 use Rattle.shapes.specs.declared.Shape.{Shape}
 use Rattle.layout.specs.declared.Wall as layout
@@ -38,7 +39,7 @@ module _ (ws : List ℕ) (v : layout.Wall) (o : Open ws v) where
   open-limits = subst (λ (v : layout.Wall). Limits (headerOf v)) (sym (o .fields)) (open-good .limits)
 
   pub open-spread : v .spread < 2 ^ 32
-  open-spread = spread-fits (headerOf v) open-limits
+  open-spread = spread-fits (v .bits) (v .spread) (open-limits .bits-high) (open-limits .spread-valid)
 
   -- the header of the code is that of the wall
   pub open-header : headerOf v ≡ parse ws .header

@@ -1,7 +1,7 @@
 -- One more of a flow: its refusals, and the step where none of 7 to 10 is met.
 use mathlib.Core.Logic.{_≢_}
-use mathlib.Core.Path.{_≡_, sym, ap, ap₂, _∙_, subst}
-use mathlib.Core.Bool.{Bool, not, _&&_}
+use mathlib.Core.Path.{_≡_, sym, ap, _∙_, subst}
+use mathlib.Core.Bool.{not, _&&_}
 use mathlib.Core.List.{List, [], _∷_, _++_}
 use Prim.Native.Nat.{ℕ, _+_, _≤_, _<_}
 use native.Mathlib.Nat.{le-trans}
@@ -16,7 +16,7 @@ use Rattle.model.proofs.Headers.{eq-eqb}
 use Rattle.model.proofs.Sums.{sum-at}
 use Rattle.model.proofs.Tools.{to-not-not}
 use Rattle.model.proofs.Buckets.{bucket-facts}
-use Rattle.model.proofs.Refusals.{first-met, first-skip, answer-no, answer-refused}
+use Rattle.model.proofs.Refusals.{first-met, first-skip, answer-no, refused-as}
 use Rattle.model.proofs.Eleven.{eleven-drops}
 use Rattle.layout.specs.declared.Wall as layout
 use Rattle.layout.specs.Views.{headerOf}
@@ -49,7 +49,7 @@ module _ (ws : List ℕ) (i a : ℕ) where
 
   refused : (n : ℕ) → 0 < n → firstMet (nine ∷ ten ∷ twelve ∷ []) ≡ n → record { number = n; value = 0; words = ws } ≡ oneMore ws i a
   unfolding oneMore
-  refused n h e = sym (answer-refused c after ws n h) ∙ ap (λ n. outcome n c after ws) (sym e)
+  refused = refused-as (nine ∷ ten ∷ twelve ∷ []) c after ws
 
   pub at-nine : T (not (soundAt (parse ws) i)) → record { number = 9; value = 0; words = ws } ≡ oneMore ws i a
   at-nine t = refused 9 (omega arith) (first-met [] nine (ten ∷ twelve ∷ []) tt t)
@@ -77,8 +77,7 @@ module _ (ws : List ℕ) (i a : ℕ) where
 module _ (ws : List ℕ) (y : ℕ) where
   pub increment-refuses : (n : ℕ) → 0 < n → firstMet (bucketRefusals ws y ++ stepRefusals (parse ws) y) ≡ n → record { number = n; value = 0; words = ws } ≡ increment ws y
   unfolding increment
-  increment-refuses n h e =
-      sym (answer-refused (count (parse ws) y + 1) (flatten (raisedBy (parse ws) y 1)) ws n h) ∙ ap (λ n. outcome n (count (parse ws) y + 1) (flatten (raisedBy (parse ws) y 1)) ws) (sym e)
+  increment-refuses = refused-as (bucketRefusals ws y ++ stepRefusals (parse ws) y) (count (parse ws) y + 1) (flatten (raisedBy (parse ws) y 1)) ws
 
   -- 11 is never met, so where 7 and 8 are not the flow's own bucket decides
   pub increment-at : T (good ws) → y < flows (parse ws .header) → oneMore ws (bucketOf (parse ws .header) y) (placeOf (parse ws .header) y) ≡ increment ws y

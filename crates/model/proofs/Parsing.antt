@@ -2,10 +2,9 @@
 use mathlib.Core.Path.{_≡_, refl, sym, ap, ap₂, _∙_}
 use mathlib.Core.List.{List, [], _∷_, _++_, map, append-nil}
 use Prim.Native.Nat.{ℕ, zero, suc, _+_, _*_, _/_, _%_, _^_, _≤_, _<_}
-use native.Mathlib.Nat.{le-of-suc-le-suc, not-suc-le-zero, mod-eq-of-lt, le-trans}
+use native.Mathlib.Nat.{le-of-suc-le-suc, not-suc-le-zero, mod-eq-of-lt}
 use native.Mathlib.Omega.{arith}
 use lib.Dec.{lit<}
-use lib.Pow.{pow-mono}
 use lib.ListN.{length, getD, take, drop, set, length-append, length-drop, take-append-drop, length-map}
 use lib.Seq.{take-at, drop-at, drop-drop, length-take-le, take-all}
 use Rattle.model.specs.Lists.{splice, pieces, concat}
@@ -13,7 +12,7 @@ use Rattle.model.specs.Packed.{joinFields}
 use Rattle.model.specs.Shapes.{Row, rowsOf, bucketSize}
 use Rattle.model.specs.Walls.{Header, Bucket, Full, Wall, bucketsIn, letters, headFields, fullFields, fullWord, headerWords, version, wordAt, headField, readHeader, bucketWords, readBucket, fullWords, readFull, flatten, parseAs, parse}
 use Rattle.model.proofs.Lists.{map-set}
-use Rattle.model.proofs.Slots.{spread-lt}
+use Rattle.model.proofs.Slots.{spread-fits}
 use Rattle.model.proofs.Fields.{Fill, cut-join, join-cut}
 use Rattle.model.proofs.Tools.{Each, each-map, map-back}
 use Rattle.model.proofs.Pieces.{Sized, length-cat, chunks-cat, cat-chunks, length-chunks, sized-chunks, chunk-at, splice-after, cat-set}
@@ -83,13 +82,10 @@ pub record Coded (h : Header) : Type 0 where
   pub fulls : Fill fullFields (h .full ∷ h .used ∷ h .spread ∷ [])
   pub tabled : h .rows ≡ rowsOf (h .shape)
 
-pub spread-fits : (h : Header) → Limits h → h .spread < 2 ^ 32
-spread-fits h l = let e : h .bits ≤ 32 = omega (arith, l .bits-high) in le-trans (spread-lt (h .bits) (h .spread) (l .spread-valid)) (pow-mono e)
-
 pub coded-of : (h : Header) → Limits h → h .rows ≡ rowsOf (h .shape) → Coded h
 coded-of h l e = record {
   head = (lit< tt, (lit< tt, (omega (arith, l .shape-high), (omega (arith, l .width-high), (omega (arith, l .bits-high), tt)))));
-  fulls = (omega (arith, l .full-most), (omega (arith, l .full-most, l .spare-full), (spread-fits h l, tt)));
+  fulls = (omega (arith, l .full-most), (omega (arith, l .full-most, l .spare-full), (spread-fits (h .bits) (h .spread) (l .bits-high) (l .spread-valid), tt)));
   tabled = e;
 }
 

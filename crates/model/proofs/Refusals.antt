@@ -1,6 +1,6 @@
 -- Numbers and refusals: the first that applies, and what a refusal leaves.
 use mathlib.Core.Logic.{_≢_}
-use mathlib.Core.Path.{_≡_, refl, sym, _∙_, subst}
+use mathlib.Core.Path.{_≡_, refl, sym, ap, _∙_, subst}
 use mathlib.Core.Bool.{Bool, true, false, not, _&&_}
 use mathlib.Core.List.{List, [], _∷_, _++_}
 use Prim.Native.Nat.{ℕ, zero, suc, _+_, _<_}
@@ -62,6 +62,10 @@ module _ (v : ℕ) (done ws : List ℕ) where
   pub answer-refused : (n : ℕ) → 0 < n → outcome n v done ws ≡ record { number = n; value = 0; words = ws }
   answer-refused zero h = absurd (not-suc-le-zero h)
   answer-refused (suc n) h = refl
+
+-- the outcome where n, not 0, is the number of the list
+pub refused-as : (rs : List Refusal) (v : ℕ) (done ws : List ℕ) (n : ℕ) → 0 < n → firstMet rs ≡ n → record { number = n; value = 0; words = ws } ≡ outcome (firstMet rs) v done ws
+refused-as rs v done ws n h e = sym (answer-refused v done ws n h) ∙ ap (λ n. outcome n v done ws) (sym e)
 
 module _ (v : ℕ) where
   pub reply-done : (n : ℕ) → n ≡ 0 → reply n v ≡ record { number = 0; value = v }

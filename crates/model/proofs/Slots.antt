@@ -1,12 +1,12 @@
 -- Each slot has exactly one flow, whatever the spread: a spread is undone by another, the reversed bits by themselves.
 use mathlib.Core.Path.{_≡_, refl, sym, ap, ap₂, _∙_}
 use mathlib.Core.List.{List, [], _∷_, reverse, reverseAux, reverse-cons, reverse-reverse}
-use Prim.Native.Nat.{ℕ, zero, suc, _+_, _-_, _*_, _/_, _%_, _^_, _<_}
-use native.Mathlib.Nat.{one-mul, zero-add, mul-assoc, mul-comm, mod-eq-of-lt, mod-lt, div-one, pow-suc}
+use Prim.Native.Nat.{ℕ, zero, suc, _+_, _-_, _*_, _/_, _%_, _^_, _≤_, _<_}
+use native.Mathlib.Nat.{one-mul, zero-add, mul-assoc, mul-comm, mod-eq-of-lt, mod-lt, div-one, pow-suc, le-trans}
 use native.Mathlib.Decide.{decLt}
 use native.Mathlib.Omega.{arith}
 use lib.Dec.{T, eqb, ltb, eqb→eq, ltb→lt, lt→ltb, lit<}
-use lib.Pow.{shr-shr, high, field, pow-pos, mod-mod-pow}
+use lib.Pow.{shr-shr, high, field, pow-pos, pow-mono, mod-mod-pow}
 use lib.ListN.{length, length-reverse}
 use Rattle.model.specs.Lists.{byMark}
 use Rattle.model.specs.Packed.{pack, unpack, bit}
@@ -75,12 +75,21 @@ pub slot-lt : (b m y : ℕ) → slot b m y < 2 ^ b
 slot-lt b zero y = reversed-lt b y
 slot-lt b (suc m) y = mod-lt (y * suc m) (pow-pos b)
 
-spread-facts : (b m : ℕ) → T (validSpread b (suc m)) → (suc m % 2 ≡ 1) × (suc m < 2 ^ b)
+-- a spread other than 0 is odd and below 2 ^ b, and a number that is both is a spread
+pub spread-facts : (b m : ℕ) → T (validSpread b (suc m)) → (suc m % 2 ≡ 1) × (suc m < 2 ^ b)
 spread-facts b m t = let u = and-tests (eqb (suc m % 2) 1) (ltb (suc m) (2 ^ b)) t in (eqb→eq (suc m % 2) 1 (u .0), ltb→lt (suc m) (2 ^ b) (u .1))
+
+pub facts-spread : (b m : ℕ) → m % 2 ≡ 1 → m < 2 ^ b → T (validSpread b m)
+facts-spread b zero o l = tt
+facts-spread b (suc m) o l = tests-and (eqb (suc m % 2) 1) (ltb (suc m) (2 ^ b)) (rw o tt) (lt→ltb (suc m) (2 ^ b) l)
 
 pub spread-lt : (b m : ℕ) → T (validSpread b m) → m < 2 ^ b
 spread-lt b zero t = pow-pos b
 spread-lt b (suc m) t = spread-facts b m t .1
+
+-- so it fits its 32 bits of word 3
+pub spread-fits : (b m : ℕ) → b ≤ 22 → T (validSpread b m) → m < 2 ^ 32
+spread-fits b m h t = let l : b ≤ 32 = omega (arith, h) in le-trans (spread-lt b m t) (pow-mono l)
 
 -- the spread that undoes another
 pub undoing : ℕ → ℕ → ℕ
@@ -122,11 +131,7 @@ module _ (c k : ℕ) (t : T (validSpread (suc c) (suc k))) where
       ∙ odd-factor m n (q * 2 ^ c) (product ∙ ap (λ x. x + 1) (ap (λ x. q * x) (pow-suc 2 c) ∙ sym (mul-assoc q (2 ^ c) 2)))
 
   undoing-valid : T (validSpread (suc c) (n % p))
-  undoing-valid = go (n % p) undoing-odd (mod-lt n (pow-pos (suc c)))
-    where
-      go : (x : ℕ) → x % 2 ≡ 1 → x < p → T (validSpread (suc c) x)
-      go zero o l = tt
-      go (suc x) o l = tests-and (eqb (suc x % 2) 1) (ltb (suc x) p) (rw o tt) (lt→ltb (suc x) p l)
+  undoing-valid = facts-spread (suc c) (n % p) undoing-odd (mod-lt n (pow-pos (suc c)))
 
   times-undoing : (s : ℕ) → slot (suc c) (n % p) s ≡ s * n % p
   times-undoing s = go (n % p) undoing-odd ∙ ap (λ x. x % p) (mul-comm s (n % p)) ∙ times-mod n s p ∙ ap (λ x. x % p) (mul-comm n s)

@@ -12,7 +12,7 @@ use Rattle.model.specs.Levels.{Level, encode, crowded}
 use Rattle.model.specs.Walls.{Header, Bucket, Full, Wall, wall, flows, bucketsIn, countEnd, wallSize, bucketOf, placeOf, withTotals, readHeader, limitFits, fullFits, good, flatten, parse, emptyFull, fresh}
 use Rattle.model.specs.Sound.{upperMarks, flag, fullNumber, packedWord, bucketAt, ownAt, fullFor, count, soundAt, soundBuckets, soundRest}
 
--- ---- refusals: the numbers in the document's order, each with the test by which it is met
+-- ---- refusals: the numbers in the call's own order, each with the test by which it is met
 
 pub record Refusal : Type 0 where
   pub number : ℕ
@@ -93,7 +93,7 @@ pub record Ask : Type 0 where
 
 -- in the order of the call's arguments
 abbrev pub ask : ℕ → ℕ → ℕ → ℕ → ℕ → ℕ → Ask
-ask p w b m j s = record { shape = p; width = w; bits = b; limit = m; full = j; spread = s }
+ask p w b l j m = record { shape = p; width = w; bits = b; limit = l; full = j; spread = m }
 
 -- the header asked for
 abbrev pub asked : Ask → Header

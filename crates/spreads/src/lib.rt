@@ -26,7 +26,7 @@ pub fn valid(bits: u64, spread: u64) -> bool
     below(bits, spread)
 }
 
-// The slot of a flow. The slot call shows what this asks by its refusals 3, 15 and 8, a call over a wall by 7 and 8.
+// The slot of a flow. The slot call shows what this asks by its refusals 3, 15 and 8, a call over a wall by 7 and 8, or by asking for flows below N alone.
 pub fn slot_of(bits: u64, spread: u64, flow: u64) -> u64
     requires { ⌜ (bits ≤ 22) × (spread < 2 ^ bits) × (flow < 2 ^ bits) ⌝ }
     ensures { λ r. ⌜ (r ≡ slot bits spread flow) × (r < 2 ^ bits) ⌝ }

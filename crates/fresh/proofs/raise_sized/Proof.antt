@@ -6,10 +6,11 @@ use lib.Dec.{T, eqb, eqb→eq}
 use lib.ListN.{length}
 use Rattle.model.specs.Slots.{validSpread}
 use Rattle.model.specs.Walls.{limitFits, fullFits, wallSize}
+use Rattle.model.proofs.Slots.{spread-fits}
 use Rattle.answer.proofs.Said.{said}
 use Rattle.layout.specs.Views.{headerOf}
 use Rattle.layout.proofs.Tests.{passed, failed}
-use Rattle.fresh.proofs.Starting.{full-most, spread-most, sized-4, sized-5, sized-15, sized-6, sized-0}
+use Rattle.fresh.proofs.Starting.{full-most, sized-4, sized-5, sized-15, sized-6, sized-0}
 use Rattle.fresh.proofs.raise_sized.Statement.{statement}
 use Rattle.fresh.proofs.raise_sized.Tie as tie
 
@@ -100,7 +101,7 @@ write-requires c κs =
     let s = f .before .before .before .before .before in (
       s .pre,
       full-most (headerOf (s .args .v)) (full-passed f),
-      spread-most (s .args .v) (s .pre) (spread-passed (e .before)),
+      spread-fits (s .args .v .bits) (s .args .v .spread) (s .pre .bits-high) (spread-passed (e .before)),
       eqb→eq (length (s .args .words .now)) (wallSize (headerOf (s .args .v))) (length-passed e),
     )
 
