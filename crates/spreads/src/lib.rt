@@ -13,17 +13,12 @@ pub fn below(bits: u64, x: u64) -> bool
     x < packed::pow2(bits)
 }
 
-// Whether a wall of 2^bits flows may carry the spread.
+// Whether a wall of 2^bits flows may carry the spread: an odd one is below 2^bits, an even one below 2^0, which is 0. In one test, so that a header is
+// judged in the frame of the call that opens it.
 pub fn valid(bits: u64, spread: u64) -> bool
     ensures { λ r. ⌜ r ≡ validSpread bits spread ⌝ }
 {
-    if spread == 0 {
-        return true;
-    }
-    if spread % 2 == 0 {
-        return false;
-    }
-    below(bits, spread)
+    below(spread % 2 * bits, spread)
 }
 
 // The slot of a flow. The slot call shows what this asks by its refusals 3, 15 and 8, a call over a wall by 7 and 8, or by asking for flows below N alone.
