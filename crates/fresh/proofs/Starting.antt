@@ -10,7 +10,7 @@ use lib.ListN.{length, set, replicate}
 use Rattle.model.specs.Shapes.{knownShape, widthAsked}
 use Rattle.model.specs.Slots.{knownBits, validSpread}
 use Rattle.model.specs.Walls.{Header, fullWord, withTotals, bucketsIn, bucketLength, wallSize, limitFits, fullFits, readHeader, good, fresh}
-use Rattle.model.specs.Calls.{Refusal, refuse, firstMet, outcome, Ask, asked, raiseRefusals, raise, closeRefusals, close}
+use Rattle.model.specs.Calls.{Refusal, refuse, firstMet, outcome, Ask, asked, sizedRefusals, raiseRefusals, raise, closeRefusals, close}
 use Rattle.model.proofs.Tools.{to-not-not, and-tests}
 use Rattle.model.proofs.Slots.{spread-fits}
 use Rattle.model.proofs.Headers.{of-good}
@@ -22,7 +22,7 @@ use Rattle.layout.proofs.Refused.{asked-bounds}
 use Rattle.header.specs.declared.Opened.the-variants.{Good}
 use Rattle.header.specs.Headers.{openedOf, Known}
 use Rattle.header.proofs.Opening.{opened, good-known}
-use Rattle.fresh.specs.Raise.{sizedRefusals, raiseSized}
+use Rattle.fresh.specs.Raise.{raiseSized}
 
 -- ---- the words
 

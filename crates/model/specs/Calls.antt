@@ -109,15 +109,20 @@ asked a = record {
   spread = a .spread;
 }
 
+-- of a header whose shape, width and bits are known, and of the words lent for it
+abbrev pub sizedRefusals : Header → List ℕ → List Refusal
+sizedRefusals h ws =
+    refuse 4 (not (limitFits h))
+    ∷ refuse 5 (not (fullFits h))
+    ∷ refuse 15 (not (validSpread (h .bits) (h .spread)))
+    ∷ refuse 6 (not (eqb (length ws) (wallSize h))) ∷ []
+
 abbrev pub raiseRefusals : Ask → List ℕ → List Refusal
 raiseRefusals a ws =
     refuse 1 (not (knownShape (a .shape)))
     ∷ refuse 2 (ltb 16 (a .width))
     ∷ refuse 3 (not (knownBits (a .bits)))
-    ∷ refuse 4 (not (limitFits (asked a)))
-    ∷ refuse 5 (not (fullFits (asked a)))
-    ∷ refuse 15 (not (validSpread (a .bits) (a .spread)))
-    ∷ refuse 6 (not (eqb (length ws) (wallSize (asked a)))) ∷ []
+    ∷ sizedRefusals (asked a) ws
 
 unfoldable pub raise : Ask → List ℕ → Outcome
 raise a ws = outcome (firstMet (raiseRefusals a ws)) 0 (fresh (asked a)) ws
