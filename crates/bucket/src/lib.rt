@@ -1,4 +1,6 @@
 // A bucket as one value: taken out of the words of a wall, stepped, handed back, and stored there again.
+#![tactic(auto)]
+
 use growth::Upper;
 
 pub mod raise;

@@ -1,3 +1,5 @@
+#![tactic(auto)]
+
 ghost use Rattle.std.specs.Prelude.{◌≡◌, ◌+◌, ◌*◌, ◌≤◌, ◌<◌, length, set};
 ghost use Rattle.answer.specs.Answers.{listing_of};
 ghost use Rattle.model.specs.Walls.{parse};

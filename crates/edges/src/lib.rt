@@ -1,1 +1,2 @@
 // The documents' edges, in tables, proved by computing. There is no code here.
+#![tactic(auto)]

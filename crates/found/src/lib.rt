@@ -1,4 +1,6 @@
 // Bucket i of a wall whose header is good, judged and read where it lies.
+#![tactic(auto)]
+
 ghost use Rattle.std.specs.Prelude.{◌≡◌, ◌/◌, ◌≤◌, ◌<◌, ◌^◌, T, get_or};
 ghost use Rattle.model.specs.Lists.{sum};
 ghost use Rattle.model.specs.Walls.{Bucket, buckets_in, parse};

@@ -1,4 +1,6 @@
 // A flagged bucket where it lies in the words of a wall, judged and read in place; the words of its full-size bucket begin at f.
+#![tactic(auto)]
+
 ghost use Rattle.std.specs.Prelude.{◌≡◌, ◌+◌, ◌/◌, ◌%◌, ◌≤◌, ◌<◌, ◌^◌, length, get_or};
 ghost use Rattle.model.specs.Lists.{sum, all};
 ghost use Rattle.model.specs.Packed.{bit};

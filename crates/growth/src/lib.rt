@@ -1,4 +1,6 @@
 // The upper levels of a bucket as one value, under a counter that grows: that there is room for it was found before.
+#![tactic(auto)]
+
 ghost use Rattle.std.specs.Prelude.{◌≡◌, ◌+◌, ◌-◌, ◌*◌, ◌/◌, ◌%◌, ◌≤◌, ◌<◌, ◌^◌, get_or, set};
 ghost use Rattle.model.specs.Packed.{put_in, replaced};
 ghost use Rattle.shapes.specs.Shapes.{rows_from, rows_in};

@@ -1,3 +1,5 @@
+#![tactic(auto)]
+
 ghost use Rattle.std.specs.Prelude.{◌≡◌, ◌+◌, ◌-◌, ◌*◌, ◌≤◌, ◌<◌, length};
 ghost use Rattle.model.specs.Walls.{buckets_in, bucket_length, wall_size, limit_fits, full_fits};
 ghost use Rattle.layout.specs.Views.{header_of};

@@ -1,3 +1,5 @@
+#![tactic(auto)]
+
 ghost use Rattle.std.specs.Prelude.{◌≡◌};
 ghost use Rattle.answer.specs.Answers.{reply_of};
 ghost use Rattle.model.specs.Calls.{image_call, limits_call, slot_call};

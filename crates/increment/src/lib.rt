@@ -1,3 +1,5 @@
+#![tactic(auto)]
+
 ghost use Rattle.std.specs.Prelude.{◌≡◌, ◌/◌, ◌≤◌, ◌<◌, ◌^◌};
 ghost use Rattle.answer.specs.Answers.{outcome_of};
 ghost use Rattle.model.specs.Walls.{buckets_in, parse};

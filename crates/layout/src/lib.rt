@@ -1,3 +1,5 @@
+#![tactic(auto)]
+
 ghost use Rattle.std.specs.Prelude.{◌≡◌, leb, replicate};
 ghost use Rattle.answer.specs.Answers.{reply_of};
 ghost use Rattle.model.specs.Calls.{limits_call};

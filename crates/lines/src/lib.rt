@@ -1,3 +1,5 @@
+#![tactic(auto)]
+
 ghost use Rattle.std.specs.Prelude.{◌≡◌, ◌++◌, ◌≤◌, length, drop};
 ghost use Rattle.lines.specs.Transcript.{answers, lines_of, transcript, words_after, words_of};
 ghost use Rattle.texts.specs.Writing.{Room, Wrote};

@@ -1,4 +1,6 @@
 // A full-size bucket where it lies in the words of a wall: its moved flags at the offset `at`, and a count for each place after them.
+#![tactic(auto)]
+
 ghost use Rattle.std.specs.Prelude.{◌≡◌, ◌+◌, ◌≤◌, ◌<◌, length};
 ghost use Rattle.model.specs.Lists.{splice};
 ghost use Rattle.model.specs.Walls.{full_words, empty_full};

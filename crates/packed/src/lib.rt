@@ -1,5 +1,7 @@
 // A word of packed entries of w bits each, entry 0 lowest. A mark is an entry of one bit. Places and widths lie within a word: who
 // knows the shape of a bucket shows it.
+#![tactic(auto)]
+
 ghost use Rattle.std.specs.Prelude.{◌≡◌, ◌+◌, ◌-◌, ◌*◌, ◌/◌, ◌%◌, ◌≤◌, ◌<◌, ◌^◌};
 ghost use Rattle.std.specs.Int.Count.{ones};
 ghost use Rattle.model.specs.Packed.{entry, bit, rank, replaced, put_in};

@@ -1,3 +1,5 @@
+#![tactic(auto)]
+
 ghost use Rattle.std.specs.Prelude.{◌≡◌, ◌+◌, ◌≤◌, length, set};
 ghost use Rattle.model.specs.Lists.{splice};
 ghost use Rattle.model.specs.Shapes.{bucket_size};

@@ -1,4 +1,6 @@
 // A bucket where it lies in the words of a wall, judged and read in place; what a flagged one has besides is in its full-size bucket.
+#![tactic(auto)]
+
 ghost use Rattle.std.specs.Prelude.{◌≡◌, ◌+◌, ◌≤◌, ◌<◌, ◌^◌, leb, length, get_or, drop};
 ghost use Rattle.sums.specs.Sums.{first_sum};
 ghost use Rattle.model.specs.Sound.{own_counts};

@@ -1,4 +1,6 @@
 // The shapes: document 01's table, and a shape in few words.
+#![tactic(auto)]
+
 ghost use Rattle.std.specs.Prelude.{◌≡◌, ◌+◌, ◌-◌, ◌≤◌, ◌<◌};
 ghost use Rattle.model.specs.Shapes.{counter_bits, rows_of};
 ghost use Rattle.shapes.specs.Shapes.{entries_at, entry_bytes, shape_of, table_entries, table_width, width_at, width_bytes};

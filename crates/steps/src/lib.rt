@@ -1,3 +1,5 @@
+#![tactic(auto)]
+
 ghost use Rattle.std.specs.Prelude.{◌≡◌, [], ◌∷◌, ◌≤◌, ◌<◌, ◌^◌, get_or, length, set};
 ghost use Rattle.answer.specs.Answers.{outcome_of};
 ghost use Rattle.model.specs.Packed.{join_fields};

@@ -1,4 +1,6 @@
 // The sum of the 64 entries of level 1, where they lie in the words of a wall.
+#![tactic(auto)]
+
 ghost use Rattle.std.specs.Prelude.{◌≡◌, ◌+◌, ◌-◌, ◌*◌, ◌/◌, ◌≤◌, ◌<◌, ◌^◌, length, drop};
 ghost use Rattle.std.specs.Int.Bits.{bit_and};
 ghost use Rattle.model.specs.Lists.{sum};

@@ -1,3 +1,5 @@
+#![tactic(auto)]
+
 ghost use Rattle.std.specs.Prelude.{◌≡◌, ◌++◌, get_or};
 ghost use Rattle.model.specs.Walls.{read_header};
 ghost use Rattle.texts.specs.Texts.{answer_line, bad_line, decimal, total_line};

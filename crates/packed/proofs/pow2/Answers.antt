@@ -1,21 +1,13 @@
-use borrow.Author.Rules.{rules}
 use mathlib.Core.Path.{◌∙◌}
 use Prim.Native.Nat.{◌^◌}
 use native.Mathlib.Nat.{one-mul}
 use native.Mathlib.Omega.{arith}
 use lib.Dec.{lit<}
 use lib.Pow.{pow_pos, shl_exact}
-use Rattle.packed.proofs.pow2.Statement.{statement}
-use Rattle.packed.proofs.pow2.Tie as tie
+use Rattle.packed.proofs.pow2.Goals as goal
 
-shl-result : tie.Need-overflow-shl-result
-shl-result c = search rules
-
-returns : tie.Need-returns
+pub returns : goal.returns
 returns c =
     let k = c.args.k in
     let e = shl_exact 1 k 64 (lit< tt) (omega arith) ∙ one-mul (2 ^ k) in
     (e, rw e (pow_pos k))
-
-pub pow2-spec : {M : Type 1} → statement M
-pow2-spec = tie.close (tie.spec shl-result returns)
