@@ -3,7 +3,5 @@ use Rattle.moves.proofs.move_first.Goals as goal
 
 pub returns : goal.returns
 returns c =
-    let z = c.before.before.before.before in
-    let p = z.before.before.before in
-    let a = p.args in
-    first_stored a.words.now a.at a.place a.count z.clear.new.0 c.Move-in.new.0 p.requires.0 p.requires.1 z.clear.ensures c.Move-in.ensures
+    let a = c.args in
+    first_stored a.words.now a.at a.place a.count c.clear.new.words c.move_in.new.words c.requires.0 c.requires.1 c.clear.ensures c.move_in.ensures

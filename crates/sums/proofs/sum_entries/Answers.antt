@@ -29,4 +29,4 @@ pub returns : goal.returns
 returns c =
     let l = c.loop-a in
     let a = c.args in
-    l.invariant.1 ∙ first-sum a.w a.words.now a.at (λ i. c.type_inv.words i) l.a (omega (arith, l.invariant.0))
+    l.invariant.1 ∙ first-sum a.w a.words.now a.at (λ i. (c.type_inv.words i).fits) l.a (omega (arith, l.invariant.0))

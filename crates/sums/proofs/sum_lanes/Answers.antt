@@ -21,20 +21,17 @@ entry_at-requires c =
     let e = chunk-fits a.w a.n a.chunks c.loop-g.g ((a.w + a.w) * a.n) a.at _ refl c.requires.0 c.loop-g-test.true c.requires.7 c.requires.8 in
     (e.0, e.1, chunk_some a.w a.n ((a.w + a.w) * a.n) refl c.requires.6 c.requires.1, c.requires.5)
 
-odd : (c : goal.After-pow2-2) → (c.pow2.result - 1) / (c.pow2-2.result + 1) ≡ mask c.args.w c.args.n
-odd c = let a = c.args in mask_div a.w a.n c.pow2.result c.pow2-2.result c.pow2.ensures.0 c.pow2-2.ensures.0
-
 pub paired-acc-requires : goal.paired-acc-requires
 paired-acc-requires c =
     let a = c.args in
-    (omega (arith, c.requires.7), chunk_le a.w a.n c.loop-g.g (pack 64 (drop a.at a.words.now)) ((a.w + a.w) * a.n) _ c.entry_at.result refl (odd c.before.before.before) c.entry_at.ensures)
+    (omega (arith, c.requires.7), chunk_le a.w a.n c.loop-g.g (pack 64 (drop a.at a.words.now)) ((a.w + a.w) * a.n) _ c.entry_at.result refl (mask_div a.w a.n c.pow2.result c.pow2-2.result c.pow2.ensures.0 c.pow2-2.ensures.0) c.entry_at.ensures)
 
 next : (c : goal.After-paired-acc) → let l = c.loop-g in let a = c.args in
     Added a.w a.n (l.g + 1) (pack 64 (drop a.at a.words.now)) (l.acc + c.paired-acc.result)
 next c =
     let l = c.loop-g in
     let a = c.args in
-    added_one a.w a.n l.g (pack 64 (drop a.at a.words.now)) ((a.w + a.w) * a.n) _ c.entry_at.result refl (odd c.before.before.before.before) c.entry_at.ensures
+    added_one a.w a.n l.g (pack 64 (drop a.at a.words.now)) ((a.w + a.w) * a.n) _ c.entry_at.result refl (mask_div a.w a.n c.pow2.result c.pow2-2.result c.pow2.ensures.0 c.pow2-2.ensures.0) c.entry_at.ensures
     l.acc c.paired-acc.result c.paired-acc.ensures l.invariant.1
 
 pub overflow_add-acc : goal.overflow_add-acc
@@ -52,4 +49,4 @@ returns c =
     let l = c.loop-g in
     let e : l.g ≡ a.chunks = omega (arith, l.invariant.0, c.loop-g-test.false) in
     c.sum_word.ensures ∙ added_all a.w a.n a.chunks (pack 64 (drop a.at a.words.now)) l.acc c.requires.4 l.g e c.requires.0 l.invariant.1 64 (sixty_four a.n a.chunks l.g c.requires.0 e)
-    ∙ first-sum a.w a.words.now a.at (λ i. c.type_inv.words i) 64 refl
+    ∙ first-sum a.w a.words.now a.at (λ i. (c.type_inv.words i).fits) 64 refl

@@ -59,7 +59,7 @@ returns-in_default c =
     let l = c.loop-left in
     let a = c.args in
     judge_stop a.words.now l.at l.marks l.entries l.widths (ones l.m) l.weight l.sum l.left c.loop-left-test.true (rw (← c.count-n.ensures.0) (omega (arith, c.if-k-n.false)))
-    (rw (c.count-n.ensures.0, c.pow2.ensures.0) at (sym c.judge_level.ensures ∙ c.enum_told-1.given.1)) ∙ l.invariant.same
+    (rw (c.count-n.ensures.0, c.pow2.ensures.0) at (sym c.judge_level.ensures ∙ c.in_default.is)) ∙ l.invariant.same
 
 pub pow2-requires-in-loop-left-2 : goal.pow2-requires-in-loop-left-2
 pow2-requires-in-loop-left-2 c =
@@ -67,23 +67,23 @@ pow2-requires-in-loop-left-2 c =
     let a = c.args in
     omega (arith, (here l.invariant c.loop-left-test.true).2)
 
-told : (c : goal.After-pow2-in-loop-left-2) → let l = c.loop-left in let a = c.args in alone a.words.now l.at l.marks l.entries l.widths (ones l.m) l.weight l.sum (l.marks % 2 ^ (l.entries % 256)) ≡ Sound c.own-1.given.0.0
-told c = rw (c.count-n.ensures.0, c.pow2.ensures.0) at (sym c.judge_level.ensures ∙ c.own-1.given.1)
+told : (c : goal.After-pow2-in-loop-left-2) → let l = c.loop-left in let a = c.args in alone a.words.now l.at l.marks l.entries l.widths (ones l.m) l.weight l.sum (l.marks % 2 ^ (l.entries % 256)) ≡ Sound c.in-Sound.own
+told c = rw (c.count-n.ensures.0, c.pow2.ensures.0) at (sym c.judge_level.ensures ∙ c.in-Sound.is)
 
 few : (c : goal.After-pow2-in-loop-left-2) → let l = c.loop-left in let a = c.args in (ones l.m ≤ l.entries % 256) × (ones l.m ≤ 64)
 few c = rw (← c.count-n.ensures.0) (omega (arith, c.if-k-n.false), c.count-n.ensures.1)
 
 next : (c : goal.After-pow2-in-loop-left-2) → let l = c.loop-left in let a = c.args in
     Walk a.words.now (judged a.uppers a.words.now a.first a.g a.e a.ws (ones a.m1) a.width 0) (a.first + a.uppers)
-    (l.at + 1) (l.marks % c.pow2.result) (l.marks / 2 ^ (l.entries % 256)) (l.left - 1) (l.entries / 256) (l.widths / 256) (l.weight + l.widths % 256) (l.sum + c.own-1.given.0.0 * c.pow2-in-loop-left-2.result)
+    (l.at + 1) (l.marks % c.pow2.result) (l.marks / 2 ^ (l.entries % 256)) (l.left - 1) (l.entries / 256) (l.widths / 256) (l.weight + l.widths % 256) (l.sum + c.in-Sound.own * c.pow2-in-loop-left-2.result)
 next c =
     let l = c.loop-left in
     rw (c.pow2.ensures.0, c.pow2-in-loop-left-2.ensures.0) (walk_on l.invariant c.loop-left-test.true (few c).0 (few c).1 (told c))
 
-small : (c : goal.After-pow2-in-loop-left-2) → let l = c.loop-left in let a = c.args in l.sum + c.own-1.given.0.0 * c.pow2-in-loop-left-2.result < 2 ^ 63
+small : (c : goal.After-pow2-in-loop-left-2) → let l = c.loop-left in let a = c.args in l.sum + c.in-Sound.own * c.pow2-in-loop-left-2.result < 2 ^ 63
 small c =
     let l = c.loop-left in
-    within (l.weight + l.widths % 256) (l.sum + c.own-1.given.0.0 * c.pow2-in-loop-left-2.result) (here l.invariant c.loop-left-test.true).2 (next c).low
+    within (l.weight + l.widths % 256) (l.sum + c.in-Sound.own * c.pow2-in-loop-left-2.result) (here l.invariant c.loop-left-test.true).2 (next c).low
 
 pub overflow_mul-sum : goal.overflow_mul-sum
 overflow_mul-sum c = omega (arith, small c)

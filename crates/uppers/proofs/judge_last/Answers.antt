@@ -23,15 +23,15 @@ judge_level-requires c = (c.requires.0, c.requires.1, c.requires.2, pow_pos c.ar
 pub returns-in_default : goal.returns-in_default
 returns-in_default c =
     let a = c.args in
-    let h = c.in_default in let k = c.judge_level in ?
+    last_stop (a.cells ∷ []) 0 a.g a.e a.ws a.n a.weight a.sum (omega arith) (omega arith) (sym c.judge_level.ensures ∙ c.in_default.is)
 
-told : (c : goal.After-pow2) → let a = c.args in alone (a.cells ∷ []) 0 a.g a.e a.ws a.n a.weight a.sum 0 ≡ Sound c.own-1.given.0.0
-told c = let h = c.in-Sound in ?
+told : (c : goal.After-pow2) → let a = c.args in alone (a.cells ∷ []) 0 a.g a.e a.ws a.n a.weight a.sum 0 ≡ Sound c.in-Sound.own
+told c = sym c.judge_level.ensures ∙ c.in-Sound.is
 
-small : (c : goal.After-pow2) → let a = c.args in a.sum + c.own-1.given.0.0 * c.pow2.result < 2 ^ 63
+small : (c : goal.After-pow2) → let a = c.args in a.sum + c.in-Sound.own * c.pow2.result < 2 ^ 63
 small c =
     let a = c.args in
-    rw c.pow2.ensures.0 (weighed (a.ws % 256) a.n a.cells c.own-1.given.0.0 a.weight a.sum c.requires.2 c.requires.3 c.requires.4 (alone-sum (a.cells ∷ []) 0 a.g a.e a.ws a.n a.weight a.sum 0 (told c)))
+    rw c.pow2.ensures.0 (weighed (a.ws % 256) a.n a.cells c.in-Sound.own a.weight a.sum c.requires.2 c.requires.3 c.requires.4 (alone-sum (a.cells ∷ []) 0 a.g a.e a.ws a.n a.weight a.sum 0 (told c)))
 
 pub overflow_mul-result : goal.overflow_mul-result
 overflow_mul-result c = omega (arith, small c)
