@@ -5,7 +5,7 @@ ghost use Rattle.answer.specs.Answers.{reply_of};
 
 // What a call answers: document 01's number, and the value that comes with it. C reads it as two 64-bit words.
 #[repr(C)]
-#[derive(Drop)]
+#[derive(Clone, Copy)]
 pub struct Answer {
     pub number: u64,
     pub value: u64,

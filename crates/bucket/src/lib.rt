@@ -7,7 +7,7 @@ pub mod raise;
 pub mod words;
 
 // Room for 16 words of level 1, its marks, and the upper levels.
-#[derive(Drop)]
+#[derive(Clone, Copy)]
 pub struct Bucket {
     pub first: [u64; 16],
     pub marks: u64,

@@ -11,7 +11,7 @@ ghost use Rattle.growth.specs.Grow.{Comes, Grown, Redone, Rises};
 use shapes::Shape;
 
 // Their words of entries, and the packed word, which has their marks.
-#[derive(Drop)]
+#[derive(Clone, Copy)]
 pub struct Upper {
     pub words: [u64; 4],
     pub packed: u64,

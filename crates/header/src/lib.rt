@@ -8,7 +8,7 @@ ghost use Rattle.header.specs.Headers.{Known, Marked, fields_of, opened_of};
 use layout::Wall;
 
 // A header that is good, or not.
-#[derive(Drop)]
+#[derive(Clone, Copy)]
 pub enum Opened {
     Good(Wall),
     Bad,

@@ -11,7 +11,7 @@ use bucket::Bucket;
 use growth::Upper;
 
 // A wall's header.
-#[derive(Drop)]
+#[derive(Clone, Copy)]
 pub struct Wall {
     pub shape: u64,
     pub width: u64,

@@ -89,7 +89,7 @@ pub fn counter_bits(shape: u64, width: u64) -> u64
 }
 
 // The width of level 1, and the entries and widths of the levels above it: a byte for each of these, level 2 lowest.
-#[derive(Drop)]
+#[derive(Clone, Copy)]
 pub struct Shape {
     pub uppers: u64,
     pub width: u64,

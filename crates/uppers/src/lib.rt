@@ -9,7 +9,7 @@ ghost use Rattle.uppers.specs.Judge.{verdict, filled};
 ghost use Rattle.uppers.specs.Uppers.{Ahead, judged, zero_words};
 
 // What judging finds: a number that the judge was asked for, if what it judged is sound.
-#[derive(Drop)]
+#[derive(Clone, Copy)]
 pub enum Judged {
     Sound(u64),
     Unsound,

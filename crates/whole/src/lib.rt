@@ -15,7 +15,7 @@ use layout::Wall;
 use uppers::Judged;
 
 // Of the buckets passed: their counts added up, how many are flagged, and how many of those hold a number that one before them holds.
-#[derive(Drop)]
+#[derive(Clone, Copy)]
 struct Tally {
     sum: u64,
     flagged: u64,
@@ -23,14 +23,14 @@ struct Tally {
 }
 
 // One bucket more, or that it is unsound.
-#[derive(Drop)]
+#[derive(Clone, Copy)]
 enum Step {
     On(Tally),
     Unsound,
 }
 
 // All buckets, or the lowest unsound one.
-#[derive(Drop)]
+#[derive(Clone, Copy)]
 enum Found {
     Sound(Tally),
     Unsound(u64),
