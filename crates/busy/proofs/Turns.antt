@@ -2,17 +2,23 @@
 use mathlib.Core.Path.{◌≡◌, refl, sym, ap, ap₂, ◌∙◌, subst}
 use mathlib.Core.Bool.{Bool, true, false}
 use mathlib.Core.List.{List, [], ◌∷◌, ◌++◌, append-nil}
-use Prim.Native.Nat.{ℕ, zero, suc, ◌+◌, ◌*◌, ◌-◌, ◌≤◌, ◌<◌}
+use Prim.Native.Nat.{ℕ, zero, suc, ◌+◌, ◌*◌, ◌-◌, ◌/◌, ◌%◌, ◌≤◌, ◌<◌}
 use native.Mathlib.Nat.{zero-add, add-zero, suc-add, add-suc, le_refl}
 use native.Mathlib.Decide.{dec_lt}
 use native.Mathlib.Omega.{arith}
 use lib.Dec.{leb, le→leb}
 use lib.Arith.{lt→nleb}
-use lib.ListN.{length, drop, set, length-set, length-append}
-use Rattle.model.specs.Lists.{choose}
+use lib.ListN.{length, get_or, drop, set, length-set, length-append}
+use Rattle.model.specs.Lists.{choose, one_if}
+use Rattle.model.specs.Walls.{parse}
+use Rattle.model.specs.Sound.{counts_at}
 use Rattle.model.specs.BusyLists.{busy_from, entries, written}
 use Rattle.model.proofs.Tools.{by_eq}
 use Rattle.model.proofs.Crowding.{T_true, T_false}
+
+-- 1 where the count at this slot is at least the floor
+abbrev pub reaches : List ℕ → ℕ → ℕ → ℕ
+reaches ws floor s = one_if (leb floor (get_or (counts_at (parse ws) (s / 64)) (s % 64) 0))
 
 module _ (c : ℕ → ℕ) (floor : ℕ) where
   last_of : (y n : ℕ) → busy_from c floor y (suc n) ≡ busy_from c floor y n ++ choose (leb floor (c (y + n))) ((y + n) ∷ []) []

@@ -63,13 +63,13 @@ loop-at-preserved c =
     let h = next in
     let q = c.count_of-count.ensures in
     let p = c.put-at in
-    let low : f y < c.args.floor → (p.result ≡ l.at) × (p.new.0 ≡ l.list) = λ h. p.ensures.0 (subst (λ m. m < c.args.floor) (sym q) h) in
-    let high : c.args.floor ≤ f y → (p.result ≡ l.at + 2) × (p.new.0 ≡ set (set l.list l.at y) (l.at + 1) (f y)) =
+    let low : f y < c.args.floor → (p.result ≡ l.at) × (p.new.list ≡ l.list) = λ h. p.ensures.0 (subst (λ m. m < c.args.floor) (sym q) h) in
+    let high : c.args.floor ≤ f y → (p.result ≡ l.at + 2) × (p.new.list ≡ set (set l.list l.at y) (l.at + 1) (f y)) =
     λ h. let z = p.ensures.1 (subst (λ m. c.args.floor ≤ m) (sym q) h) in (z.0, z.1 ∙ ap (set (set l.list l.at y) (l.at + 1)) q) in (
       omega arith,
-      next-at f c.args.floor y l.at p.result c.args.list.now l.list p.new.0 l.invariant.1 l.invariant.2 low high,
-      next-written f c.args.floor y l.at p.result c.args.list.now l.list p.new.0 l.invariant.1 l.invariant.2 low high (flows (parse ws).header) h (omega (arith, c.requires.2, c.requires.3)),
-      next-long f c.args.floor y l.at p.result c.args.list.now l.list p.new.0 l.invariant.1 l.invariant.2 low high ∙ l.invariant.3,
+      next-at f c.args.floor y l.at p.result c.args.list.now l.list p.new.list l.invariant.1 l.invariant.2 low high,
+      next-written f c.args.floor y l.at p.result c.args.list.now l.list p.new.list l.invariant.1 l.invariant.2 low high (flows (parse ws).header) h (omega (arith, c.requires.2, c.requires.3)),
+      next-long f c.args.floor y l.at p.result c.args.list.now l.list p.new.list l.invariant.1 l.invariant.2 low high ∙ l.invariant.3,
       l.invariant.4,
     )
 

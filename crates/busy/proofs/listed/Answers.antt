@@ -2,7 +2,7 @@ use borrow.Author.Rules.{rules}
 use native.Mathlib.Omega.{arith}
 use native.Mathlib.Nat.{le_trans, le_of_eq, mod-lt}
 use mathlib.Core.Path.{◌≡◌, refl, sym, ap, ◌∙◌, subst}
-use mathlib.Core.Logic.{⊎_elim}
+use Rattle.busy.proofs.Turns.{reaches}
 use mathlib.Core.List.{List}
 use Prim.Native.Nat.{ℕ, ◌+◌, ◌-◌, ◌/◌, ◌%◌, ◌<◌}
 use lib.Dec.{T, leb, lit<, le→leb}
@@ -22,10 +22,7 @@ use Rattle.header.proofs.Places.{open_known, open_limits, open_header}
 use Rattle.found.proofs.Finding.{flows_of}
 use Rattle.whole.proofs.Holding.{sum-last}
 use Rattle.busy.proofs.listed.Goals as goal
-
--- 1 where the count at this slot is at least the floor
-abbrev reaches : List ℕ → ℕ → ℕ → ℕ
-reaches ws floor s = one_if (leb floor (get_or (counts_at (parse ws) (s / 64)) (s % 64) 0))
+use Rattle.busy.proofs.listed.Goals.{then-floor-count, else-floor-count}
 
 pub pow2-n-requires : goal.pow2-n-requires
 pow2-n-requires c = omega (arith, (open_known c.args.words.now c.args.v c.requires.0).bits_high)
@@ -51,11 +48,11 @@ loop-slot-preserved c =
     let ws = a.words.now in
     let q = c.count.ensures in
     let n = get_or (counts_at (parse ws) (l.slot / 64)) (l.slot % 64) 0 in
-    ⊎_elim (λ u. let e : c.if-floor-count.k ≡ l.k + 1 = u.1 in
-    (search rules, omega (arith, e, l.invariant.1, sum-last l.slot (reaches ws a.floor), ap one_if (T_true (leb a.floor n) (le→leb a.floor n (omega (arith, u.0.taken, q))))), omega (arith, e, l.invariant.2), l.invariant.3, l.invariant.4))
-    (λ u. let e : c.if-floor-count.k ≡ l.k = u.1 in
-    (search rules, omega (arith, e, l.invariant.1, sum-last l.slot (reaches ws a.floor), ap one_if (T_false (leb a.floor n) (lt→nleb a.floor n (omega (arith, u.0.left, q))))), omega (arith, e, l.invariant.2), l.invariant.3, l.invariant.4))
-    c.if-floor-count.branch
+    elim c.if-floor-count.branch [
+    then-floor-count w ↦ let e = w.k-is in
+    (search rules, omega (arith, e, l.invariant.1, sum-last l.slot (reaches ws a.floor), ap one_if (T_true (leb a.floor n) (le→leb a.floor n (omega (arith, w.if-floor-count.true, q))))), omega (arith, e, l.invariant.2), l.invariant.3, l.invariant.4)
+    | else-floor-count w ↦ let e = w.k-is in
+    (search rules, omega (arith, e, l.invariant.1, sum-last l.slot (reaches ws a.floor), ap one_if (T_false (leb a.floor n) (lt→nleb a.floor n (omega (arith, w.if-floor-count.false, q))))), omega (arith, e, l.invariant.2), l.invariant.3, l.invariant.4) ]
 
 pub returns : goal.returns
 returns c =

@@ -2,6 +2,7 @@ use mathlib.Core.Path.{◌≡◌}
 use Prim.Native.Nat.{◌-◌, ◌≤◌}
 use Rattle.model.specs.Lists.{sum, tabulate}
 use Rattle.model.specs.Walls.{flows, parse}
+use Rattle.busy.proofs.Turns.{reaches}
 use Rattle.busy.proofs.listed.Given as goal
 
 abbrev pub invariant-loop-slot : goal.invariant-loop-slot

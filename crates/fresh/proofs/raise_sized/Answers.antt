@@ -1,4 +1,5 @@
-use mathlib.Core.Path.{ap, ◌∙◌}
+use mathlib.Core.Path.{sym, ap, ◌∙◌, subst}
+use mathlib.Core.Bool.{not}
 use mathlib.Core.List.{List}
 use Prim.Native.Nat.{ℕ}
 use lib.Dec.{T, eqb, eqb→eq}
@@ -6,6 +7,8 @@ use lib.ListN.{length}
 use Rattle.model.specs.Slots.{valid_spread}
 use Rattle.model.specs.Walls.{limit_fits, full_fits, wall_size}
 use Rattle.model.proofs.Slots.{spread-fits}
+use Rattle.model.proofs.Headers.{eq-eqb}
+use Rattle.model.proofs.Steps.{eqb-false}
 use Rattle.answer.proofs.Said.{said}
 use Rattle.layout.specs.Views.{header_of}
 use Rattle.layout.proofs.Tests.{passed, failed}
@@ -49,16 +52,14 @@ returns-then-not-exact c =
     let n = length a.words.now in
     said c.refused-then-not-exact.result 6 0 a.words.now c.refused-then-not-exact.ensures
     ∙ sized_6 (header_of a.v) a.words.now limit_passed full_passed spread_passed
-    (failed (eqb n c.size.result) (eqb n (wall_size (header_of a.v))) (ap (eqb n) c.size.ensures) (not_from_false _ c.if-not-exact.true))
+    (subst (λ b. T (not b)) (sym (eqb-false n (wall_size (header_of a.v)) (λ e. c.if-not-exact.true (e ∙ sym c.size.ensures)))) tt)
 
 pub write-requires : goal.write-requires
 write-requires c =
     let full_passed : T (full_fits (header_of c.args.v)) = passed c.full_fits.result (full_fits (header_of c.args.v)) c.full_fits.ensures (not_from_true _ c.if-not-full_fits.false) in
     let spread_passed : T (valid_spread c.args.v.bits c.args.v.spread) = let v = c.args.v in
     passed c.valid-valid.result (valid_spread v.bits v.spread) c.valid-valid.ensures (not_from_true _ c.if-not-valid.false) in
-    let length_passed : T (eqb (length c.args.words.now) (wall_size (header_of c.args.v))) = let a = c.args in
-    let n = length a.words.now in
-    passed (eqb n c.size.result) (eqb n (wall_size (header_of a.v))) (ap (eqb n) c.size.ensures) (not_from_true _ c.if-not-exact.false) in
+    let length_passed : T (eqb (length c.args.words.now) (wall_size (header_of c.args.v))) = eq-eqb (c.if-not-exact.false ∙ c.size.ensures) in
     (
       c.requires,
       full_most (header_of c.args.v) full_passed,
@@ -72,9 +73,7 @@ returns c =
     let full_passed : T (full_fits (header_of c.args.v)) = passed c.full_fits.result (full_fits (header_of c.args.v)) c.full_fits.ensures (not_from_true _ c.if-not-full_fits.false) in
     let spread_passed : T (valid_spread c.args.v.bits c.args.v.spread) = let v = c.args.v in
     passed c.valid-valid.result (valid_spread v.bits v.spread) c.valid-valid.ensures (not_from_true _ c.if-not-valid.false) in
-    let length_passed : T (eqb (length c.args.words.now) (wall_size (header_of c.args.v))) = let a = c.args in
-    let n = length a.words.now in
-    passed (eqb n c.size.result) (eqb n (wall_size (header_of a.v))) (ap (eqb n) c.size.ensures) (not_from_true _ c.if-not-exact.false) in
+    let length_passed : T (eqb (length c.args.words.now) (wall_size (header_of c.args.v))) = eq-eqb (c.if-not-exact.false ∙ c.size.ensures) in
     let a = c.args in
     said c.done.result 0 0 c.write.new.words c.done.ensures
     ∙ ap (λ (l : List ℕ). record { number = 0; value = 0; words = l }) c.write.ensures
