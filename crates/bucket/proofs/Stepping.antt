@@ -13,7 +13,7 @@ use lib.Count.{ones}
 use Rattle.model.specs.Lists.{sum, by_mark}
 use Rattle.model.specs.Packed.{pack, bit, rank, replaced}
 use Rattle.model.specs.Shapes.{Row, row, all_rows, counter_bits, mark_widths}
-use Rattle.model.specs.Levels.{Level, level, marks, encode, sound_levels, at_least, crowded}
+use Rattle.model.specs.Levels.{Level, level, encode, sound_levels, at_least, crowded}
 use Rattle.model.specs.Walls as model
 use Rattle.model.specs.Sound.{levels_of, own_counts}
 use Rattle.model.specs.Calls.{from_levels, holding}

@@ -1,7 +1,7 @@
 -- An entry of w bits of the words from one on, read in one word or across two.
-use mathlib.Core.Path.{◌≡◌, sym, ap, ◌∙◌}
+use mathlib.Core.Path.{◌≡◌}
 use mathlib.Core.List.{List}
-use Prim.Native.Nat.{ℕ, ◌+◌, ◌-◌, ◌*◌, ◌/◌, ◌%◌, ◌^◌, ◌≤◌, ◌<◌}
+use Prim.Native.Nat.{ℕ, ◌+◌, ◌*◌, ◌/◌, ◌%◌, ◌^◌, ◌≤◌, ◌<◌}
 use native.Mathlib.Nat.{mod-lt, lt_of_lt_of_le, add_assoc}
 use native.Mathlib.Omega.{arith}
 use lib.ListN.{get_or, drop}

@@ -1,7 +1,7 @@
 -- The document's edges, by computing.
 use mathlib.Core.Path.{◌≡◌, refl, ap}
-use mathlib.Core.List.{List, [], ◌∷◌, ◌++◌}
-use Prim.Native.Nat.{ℕ, ◌+◌, ◌^◌}
+use mathlib.Core.List.{[], ◌∷◌, ◌++◌}
+use Prim.Native.Nat.{◌+◌, ◌^◌}
 use lib.ListN.{replicate, get_or, set}
 use Rattle.model.specs.Levels.{encode, read_at, sound_levels, at_least, crowded}
 use Rattle.model.specs.Walls.{good, flatten, parse, fresh}

@@ -1,8 +1,8 @@
 -- A flagged bucket is sound exactly where its upper levels are and its full-size bucket passes its tests.
 use mathlib.Core.Path.{◌≡◌, sym, ap, ◌∙◌, subst, subst₂}
 use mathlib.Core.Bool.{Bool, ◌&&◌}
-use mathlib.Core.List.{List, [], ◌∷◌}
-use Prim.Native.Nat.{ℕ, ◌+◌, ◌-◌, ◌*◌, ◌/◌, ◌%◌, ◌^◌, ◌≤◌, ◌<◌}
+use mathlib.Core.List.{List}
+use Prim.Native.Nat.{ℕ, ◌+◌, ◌*◌, ◌/◌, ◌%◌, ◌^◌, ◌≤◌, ◌<◌}
 use native.Mathlib.Nat.{le_trans, le_of_eq, add-mul, div-eq_of_lt}
 use native.Mathlib.Omega.{arith}
 use lib.Dec.{T, ltb, eqb, leb→le, le→leb, lt→ltb, eqb→eq}

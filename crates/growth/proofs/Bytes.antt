@@ -1,15 +1,15 @@
 -- The rows and levels of a shape by the bytes of its two numbers, as the crates that read a bucket in place have them.
-use mathlib.Core.Path.{◌≡◌, refl, sym, ap, ap₂, ◌∙◌, subst, subst₂}
+use mathlib.Core.Path.{◌≡◌, refl, sym, ap, ap₂, ◌∙◌, subst₂}
 use mathlib.Core.Bool.{Bool}
-use mathlib.Core.List.{List, [], ◌∷◌}
-use Prim.Native.Nat.{ℕ, zero, suc, ◌+◌, ◌*◌, ◌/◌, ◌%◌, ◌^◌, ◌≤◌, ◌<◌}
-use native.Mathlib.Nat.{mul-suc, add_comm, div-one}
+use mathlib.Core.List.{List, ◌∷◌}
+use Prim.Native.Nat.{ℕ, zero, suc, ◌+◌, ◌*◌, ◌/◌, ◌%◌, ◌^◌, ◌≤◌}
+use native.Mathlib.Nat.{mul-suc, div-one}
 use native.Mathlib.Omega.{arith}
 use lib.ListN.{get_or}
 use lib.Count.{ones}
 use lib.Pow.{shr-shr}
-use Rattle.model.specs.Shapes.{Row, row}
-use Rattle.model.specs.Levels.{Level, level}
+use Rattle.model.specs.Shapes.{row}
+use Rattle.model.specs.Levels.{level}
 use Rattle.model.proofs.Tools.{Each}
 use Rattle.model.proofs.Coding.{height}
 use Rattle.shapes.specs.declared.Shape.{Shape}

@@ -1,8 +1,7 @@
 -- A counter of the upper levels that comes to a larger value, level by level.
 use mathlib.Core.Path.{◌≡◌, refl, sym, ap, ◌∙◌, subst}
-use mathlib.Core.List.{List, [], ◌∷◌}
-use Prim.Native.Nat.{ℕ, zero, suc, ◌+◌, ◌-◌, ◌*◌, ◌/◌, ◌%◌, ◌^◌, ◌≤◌, ◌<◌}
-use native.Mathlib.Nat.{le_trans, mul-le-mul_right, one-mul, mul_comm, add-mul, zero-mul, mod-eq_of_lt, mod-lt}
+use Prim.Native.Nat.{ℕ, ◌+◌, ◌-◌, ◌*◌, ◌/◌, ◌%◌, ◌^◌, ◌≤◌, ◌<◌}
+use native.Mathlib.Nat.{mul-le-mul_right, one-mul, mul_comm, add-mul, mod-eq_of_lt, mod-lt}
 use native.Mathlib.Omega.{arith}
 use lib.Dec.{T}
 use lib.ListN.{get_or, set, length, length-set}
@@ -16,11 +15,11 @@ use Rattle.rooms.specs.Growth.{entering, raising, room_to_enter, room_to_raise}
 use Rattle.rooms.proofs.Encoded.{zero-lt}
 use Rattle.growth.specs.declared.Upper.{Upper}
 use Rattle.growth.specs.Levels.{levels_from, levels_in}
-use Rattle.growth.specs.Grow.{Redone, Grown, Stands, Comes, Rises}
+use Rattle.growth.specs.Grow.{Redone, Grown, Comes, Rises}
 use Rattle.growth.proofs.Growing.{rank-count}
 use Rattle.growth.proofs.Raising.{rank_lt, entry-used, mark_put, raise_stop, raise-last, raise_in, raise_rise, room_in, room_rise, rise_end}
 use Rattle.growth.proofs.Redone.{field_put, after, ended, under, ended_last}
-use Rattle.growth.proofs.Coming.{level-here, level-used, marks-here, bits-here, stands_on}
+use Rattle.growth.proofs.Coming.{level-here, level-used, marks-here, stands_on}
 
 -- the bucket with x as the word of level j, and g as its packed word
 abbrev pub with_word : Upper → ℕ → ℕ → ℕ → Upper

@@ -1,7 +1,6 @@
 -- A counter that comes into the upper levels of a bucket, level by level.
-use mathlib.Core.Path.{◌≡◌, refl, sym, ap, ◌∙◌, subst}
-use mathlib.Core.List.{List, [], ◌∷◌}
-use Prim.Native.Nat.{ℕ, zero, suc, ◌+◌, ◌-◌, ◌*◌, ◌/◌, ◌%◌, ◌^◌, ◌≤◌, ◌<◌}
+use mathlib.Core.Path.{◌≡◌, sym, ap, ◌∙◌, subst}
+use Prim.Native.Nat.{ℕ, ◌+◌, ◌-◌, ◌*◌, ◌/◌, ◌%◌, ◌^◌, ◌≤◌, ◌<◌}
 use native.Mathlib.Nat.{mul-le-mul_right, one-mul, mod-eq_of_lt, mod-lt}
 use native.Mathlib.Omega.{arith}
 use lib.Dec.{T}
@@ -17,7 +16,7 @@ use Rattle.rooms.proofs.Encoded.{zero-lt}
 use Rattle.growth.specs.declared.Upper.{Upper}
 use Rattle.growth.specs.Levels.{levels_from, levels_in}
 use Rattle.growth.specs.Grow.{Redone, Grown, Stands, Comes}
-use Rattle.growth.proofs.Ahead.{marks_ahead, Here, here, few, at_next, marks-next}
+use Rattle.growth.proofs.Ahead.{Here, here, few, at_next, marks-next}
 use Rattle.growth.proofs.Growing.{Used, used, marks-used, sound-next, enter_free, enter_end, enter_stop, enter_on, enter_last, room_on, entry_free, cells_free, marks_lt, rank-count}
 use Rattle.growth.proofs.Redone.{after, ended, under, ended_last}
 

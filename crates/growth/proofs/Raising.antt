@@ -1,19 +1,17 @@
 -- One level of the walk by which a counter of the upper levels comes to a larger value.
-use mathlib.Core.Path.{◌≡◌, refl, sym, ap, ◌∙◌, subst}
-use mathlib.Core.Bool.{Bool, true, false}
+use mathlib.Core.Path.{◌≡◌, refl, sym, ap, subst}
+use mathlib.Core.Bool.{true, false}
 use mathlib.Core.List.{List, [], ◌∷◌}
 use Prim.Native.Nat.{ℕ, zero, suc, ◌+◌, ◌-◌, ◌*◌, ◌/◌, ◌%◌, ◌^◌, ◌≤◌, ◌<◌}
-use native.Mathlib.Nat.{le_refl, le_trans, lt_of_lt_of_le, mod-lt, mul-le-mul_left, mul-suc, one-mul, not-suc-le-zero}
+use native.Mathlib.Nat.{le_trans, lt_of_lt_of_le, mod-lt, mul-le-mul_left, mul-suc, one-mul}
 use native.Mathlib.Numerals.{add-one, sub-one}
 use native.Mathlib.Omega.{arith}
 use lib.Dec.{T, lit<}
-use lib.ListN.{get_or, set, length}
-use lib.Seq.{get_or-set_same}
+use lib.ListN.{get_or}
 use lib.Pow.{pow_mono, pow_pos, split}
 use lib.Count.{ones, ones_cat, ones_step}
 use Rattle.model.specs.Lists.{by_mark}
 use Rattle.model.specs.Packed.{bit, rank, replaced}
-use Rattle.model.specs.Shapes.{counter_bits}
 use Rattle.model.specs.Levels.{level}
 use Rattle.model.proofs.Packing.{rank-ones}
 use Rattle.packed.proofs.Words.{replaced_lt}

@@ -1,18 +1,16 @@
 -- One upper level of a bucket done anew, and the levels after it: what the whole then is.
-use mathlib.Core.Path.{◌≡◌, refl, sym, ap, ap₂, ◌∙◌, subst}
+use mathlib.Core.Path.{◌≡◌, refl, sym, ap, ap₂, ◌∙◌}
 use mathlib.Core.List.{List, [], ◌∷◌}
-use Prim.Native.Nat.{ℕ, zero, suc, ◌+◌, ◌-◌, ◌*◌, ◌/◌, ◌%◌, ◌^◌, ◌≤◌, ◌<◌}
-use native.Mathlib.Nat.{le_refl, mod-lt, add_comm, add-mul, mul_assoc}
+use Prim.Native.Nat.{ℕ, zero, suc, ◌+◌, ◌-◌, ◌*◌, ◌/◌, ◌%◌, ◌^◌, ◌<◌}
+use native.Mathlib.Nat.{mod-lt, add_comm, add-mul}
 use native.Mathlib.Numerals.{add-one, sub-one}
 use native.Mathlib.Omega.{arith}
 use lib.ListN.{get_or, set, length}
 use lib.Seq.{get_or-set_same, get_or-set_other}
 use lib.Pow.{pow_pos, high, low, shr-shr, split, field, mod-mod-pow}
-use Rattle.model.specs.Lists.{sum}
-use Rattle.model.specs.Shapes.{mark_widths}
 use Rattle.model.specs.Levels.{Level, level}
 use Rattle.shapes.specs.declared.Shape.{Shape}
-use Rattle.shapes.specs.Shapes.{rows_from, entries_at}
+use Rattle.shapes.specs.Shapes.{entries_at}
 use Rattle.growth.specs.declared.Upper.{Upper}
 use Rattle.growth.specs.Levels.{levels_from, levels_in}
 use Rattle.growth.specs.Grow.{Redone, Grown}

@@ -11,7 +11,7 @@ use lib.ListN.{length}
 use Rattle.model.specs.Lists.{choose}
 use Rattle.model.specs.Shapes.{known_shape, valid_width, rows_of}
 use Rattle.model.specs.Slots.{known_bits, valid_spread}
-use Rattle.model.specs.Walls.{Header, head_field, letters, version, word_at, good, limits, limit_fits, full_fits, buckets_in, bucket_length, wall_size}
+use Rattle.model.specs.Walls.{Header, head_field, word_at, good, limit_fits, full_fits, buckets_in, bucket_length, wall_size}
 use Rattle.model.proofs.Crowding.{T_true}
 use Rattle.model.proofs.Tools.{and_tests, tests_and}
 use Rattle.model.proofs.Headers.{Limits, limits_of, good_of, of_good, shape_bounds, rows_fine}

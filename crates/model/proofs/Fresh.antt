@@ -9,7 +9,7 @@ use lib.ListN.{length, get_or, replicate, length-replicate, replicate-append-rep
 use Rattle.model.specs.Lists.{sum, tabulate, concat}
 use Rattle.model.specs.Packed.{pack, cut_fields}
 use Rattle.model.specs.Shapes.{Row, bucket_size, mark_widths, all_rows}
-use Rattle.model.specs.Levels.{parts, marks, uppers, onward, Level, level, encode}
+use Rattle.model.specs.Levels.{parts, marks, onward, Level, level, encode}
 use Rattle.model.specs.Walls.{Header, Full, Wall, buckets_in, header_words, bucket_words, full_words, flatten, empty_full, empty_bucket, with_totals, fresh}
 use Rattle.model.specs.Sound.{is_empty_full, flag, pair_levels, levels_of, own_counts, full_of, bucket_counts, bucket_at, full_for, counts_at, all_counts}
 use Rattle.model.proofs.Lists.{least_of}

@@ -2,7 +2,7 @@
 use mathlib.Core.Path.{◌≡◌, refl, sym, ap, ap₂, ◌∙◌, subst, subst₂}
 use mathlib.Core.Bool.{Bool, true, false, ◌&&◌}
 use mathlib.Core.List.{List, [], ◌∷◌}
-use Prim.Native.Nat.{ℕ, zero, suc, ◌+◌, ◌-◌, ◌*◌, ◌/◌, ◌%◌, ◌^◌, ◌≤◌, ◌<◌, zero-le}
+use Prim.Native.Nat.{ℕ, zero, suc, ◌+◌, ◌*◌, ◌/◌, ◌%◌, ◌^◌, ◌≤◌, ◌<◌, zero-le}
 use native.Mathlib.Nat.{le_refl, le_trans, le_of_eq, mul_comm, mul_assoc, add-mul, div-eq_of_lt, zero-mul, not-suc-le-zero, mul-le-mul_left, mul-le-mul_right, mod-eq_of_lt, mod-lt}
 use native.Mathlib.Omega.{arith}
 use lib.Dec.{T, leb, ltb, eqb, leb→le, le→leb, eqb→eq}
@@ -14,7 +14,7 @@ use borrow.Author.Tests.{le-leb, lt-leb, lt-ltb, eq-eqb}
 use Rattle.model.specs.Lists.{sum, every, by_mark}
 use Rattle.model.specs.Packed.{pack, unpack, entry, bit, rank}
 use Rattle.model.specs.Shapes.{Row, row, all_rows, mark_widths}
-use Rattle.model.specs.Levels.{Level, level, parts, marks, onward, encode, sound_levels}
+use Rattle.model.specs.Levels.{Level, level, parts, onward, encode, sound_levels}
 use Rattle.model.specs.Walls.{Bucket, empty_full}
 use Rattle.model.specs.Sound.{upper_marks, flag, full_number, levels_of, own_counts, bucket_counts, sound_bucket}
 use Rattle.model.proofs.Lists.{Below, below-take}

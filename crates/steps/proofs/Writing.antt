@@ -2,7 +2,7 @@
 use mathlib.Core.Path.{◌≡◌, refl, sym, ap, ap₂, ◌∙◌, subst}
 use mathlib.Core.Bool.{Bool, true, false, not, ◌&&◌}
 use mathlib.Core.List.{List, [], ◌∷◌}
-use Prim.Native.Nat.{ℕ, zero, suc, ◌+◌, ◌*◌, ◌/◌, ◌%◌, ◌^◌, ◌≤◌, ◌<◌}
+use Prim.Native.Nat.{ℕ, ◌+◌, ◌*◌, ◌/◌, ◌%◌, ◌^◌, ◌≤◌, ◌<◌}
 use native.Mathlib.Nat.{le_trans}
 use native.Mathlib.Omega.{arith}
 use lib.Dec.{T, eqb, ltb, eqb→eq, ltb→lt}
@@ -25,10 +25,10 @@ use Rattle.model.specs.Sound.{levels_of}
 use Rattle.layout.specs.declared.Wall.{Wall}
 use Rattle.layout.specs.Views.{header_of}
 use Rattle.shapes.specs.declared.Shape.{Shape}
-use Rattle.shapes.specs.Shapes.{rows_in, shape_of, Valid}
+use Rattle.shapes.specs.Shapes.{rows_in, shape_of}
 use Rattle.shapes.proofs.Shapes.{table_rows}
 use Rattle.bucket.specs.declared.Bucket as code
-use Rattle.bucket.specs.Views.{as_bucket, bucket_in, own_of}
+use Rattle.bucket.specs.Views.{as_bucket, bucket_in}
 use Rattle.growth.specs.Levels.{Fit}
 use Rattle.bucket.specs.Raise.{RaisesIn, Stays}
 use Rattle.bucket.proofs.Stepping.{roomy}

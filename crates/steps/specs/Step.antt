@@ -1,5 +1,5 @@
 -- The step: what is left to do when the flow's own bucket is found sound and has no flag.
-use Rattle.std.specs.Prelude.{◌≡◌, ◌&&◌, List, [], ◌∷◌, ℕ, ◌<◌, T, eqb, get_or}
+use Rattle.std.specs.Prelude.{◌&&◌, List, [], ◌∷◌, ℕ, ◌<◌, T, eqb, get_or}
 use Rattle.model.specs.Walls.{buckets_in, count_end, flatten, parse}
 use Rattle.model.specs.Sound.{counts_at, sound_at}
 use Rattle.model.specs.Calls.{Outcome, refuse, first_met, outcome, overflows, step}

@@ -1,8 +1,7 @@
 -- The entries of level 1, drawn in chunks and added lane by lane.
-use mathlib.Core.Path.{◌≡◌, refl, sym, ap, ◌∙◌, subst}
-use Prim.Native.Nat.{ℕ, suc, ◌+◌, ◌-◌, ◌*◌, ◌/◌, ◌%◌, ◌^◌, ◌≤◌, ◌<◌}
-use native.Mathlib.Nat.{mod-lt, mul-zero, mul-one, mul-suc, suc-mul, mul_comm, mul_assoc, add-mul, one-mul, zero-mul, le_refl, mul-le-mul, mul-le-mul_left, lt_of_lt_of_le}
-use native.Mathlib.Numerals.{add-one}
+use mathlib.Core.Path.{◌≡◌, sym, ap, ◌∙◌, subst}
+use Prim.Native.Nat.{ℕ, suc, ◌+◌, ◌-◌, ◌*◌, ◌/◌, ◌^◌, ◌≤◌, ◌<◌}
+use native.Mathlib.Nat.{mod-lt, mul-zero, mul-suc, mul_comm, mul_assoc, add-mul, one-mul, zero-mul, mul-le-mul, mul-le-mul_left, lt_of_lt_of_le}
 use native.Mathlib.Omega.{arith}
 use lib.Bits.{bit_and}
 use lib.Pow.{pow_pos, pow_mono}

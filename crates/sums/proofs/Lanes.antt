@@ -5,8 +5,7 @@ use Prim.Native.Nat.{ℕ, zero, suc, ◌+◌, ◌-◌, ◌*◌, ◌/◌, ◌%◌
 use native.Mathlib.Nat.{mod-lt, mul-zero, mul-one, mul-suc, suc-mul, add-mul, mul-add, mul_assoc, mul_comm, zero-mul, add_comm, mod-eq_of_lt, mul-div_cancel, mod-one, div-one, mul-le-mul, lt_of_le_of_lt, lt_of_lt_of_le, le_refl, one-mul, zero-add, add-zero, add-suc}
 use native.Mathlib.Numerals.{add-one}
 use native.Mathlib.Omega.{arith}
-use lib.Arith.{digits_lt}
-use lib.Bits.{bit_and, and_block, and_mask, and_zero_r, and_le_l}
+use lib.Bits.{bit_and, and_block, and_mask, and_zero_r}
 use lib.ListN.{length, replicate}
 use lib.Pow.{pow_pos, pow-add, mod-pow-add, mod-mod-pow, shr-shr, split, field, suc_ones, ones_lt, le_ones, pow_mono}
 use Rattle.model.specs.Lists.{sum}

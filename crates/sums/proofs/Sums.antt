@@ -1,11 +1,11 @@
 -- Sums of the entries of a word: their bounds, and the ends of the three loops.
-use mathlib.Core.Path.{◌≡◌, refl, sym, ap, ◌∙◌}
+use mathlib.Core.Path.{◌≡◌, sym, ap, ◌∙◌}
 use mathlib.Core.List.{List}
 use Prim.Native.Nat.{ℕ, zero, suc, ◌+◌, ◌-◌, ◌*◌, ◌/◌, ◌%◌, ◌^◌, ◌≤◌, ◌<◌, zero-le}
-use native.Mathlib.Nat.{mod-lt, mul-zero, mul-one, mul-suc, suc-mul, mul_comm, mul_assoc, add-mul, add_comm, one-mul, zero-mul, div-one, le_trans, mul-le-mul, mul-le-mul_left, le_refl, not-suc-le-zero}
-use native.Mathlib.Numerals.{add-one, one-add, sub-one}
+use native.Mathlib.Nat.{mod-lt, mul-one, mul-suc, suc-mul, mul_comm, add_comm, mul-le-mul, mul-le-mul_left, not-suc-le-zero}
+use native.Mathlib.Numerals.{sub-one}
 use native.Mathlib.Omega.{arith}
-use lib.ListN.{get_or, take, drop, length}
+use lib.ListN.{get_or, drop}
 use lib.Seq.{get_or-drop}
 use lib.Pow.{pow_pos, pow_mono, split}
 use Rattle.model.specs.Lists.{sum}

@@ -1,10 +1,10 @@
 -- One level, judged entry by entry; its sum by what stands above each entry.
 use mathlib.Core.Path.{◌≡◌, refl, sym, ap, ◌∙◌, subst}
 use Prim.Native.Nat.{ℕ, zero, suc, ◌+◌, ◌-◌, ◌*◌, ◌/◌, ◌%◌, ◌^◌, ◌≤◌, ◌<◌, zero-le}
-use native.Mathlib.Nat.{div-one, div-eq_of_lt, mul-one, mul-add, add-mul, zero-mul, mul_comm, mul-le-mul_left, mul-le-mul_right, mod-lt, sub-zero}
+use native.Mathlib.Nat.{div-one, div-eq_of_lt, mul-one, mul-add, add-mul, zero-mul, mul-le-mul_left, sub-zero}
 use native.Mathlib.Numerals.{add-one}
 use native.Mathlib.Omega.{arith}
-use lib.Pow.{pow_pos, pow_mono, shr-shr, split, suc_ones}
+use lib.Pow.{pow_mono, shr-shr, split, suc_ones}
 use Rattle.model.specs.Lists.{sum}
 use Rattle.model.specs.Packed.{unpack, bit}
 use Rattle.uppers.specs.declared.Judged.{Judged}

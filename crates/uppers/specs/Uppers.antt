@@ -1,7 +1,6 @@
 -- The upper levels of a bucket where they lie in the words of a wall; entries and widths of a shape are bytes of a number each, level 2 lowest.
-use Rattle.std.specs.Prelude.{◌≡◌, Bool, true, false, ◌&&◌, List, [], ◌∷◌, ℕ, zero, suc, ◌+◌, ◌*◌, ◌/◌, ◌%◌, ◌^◌, ◌≤◌, ◌<◌, eqb, get_or}
-use Rattle.model.specs.Lists.{sum}
-use Rattle.model.specs.Shapes.{Row, row, mark_widths}
+use Rattle.std.specs.Prelude.{Bool, true, ◌&&◌, List, [], ◌∷◌, ℕ, zero, suc, ◌+◌, ◌*◌, ◌/◌, ◌%◌, ◌^◌, ◌≤◌, ◌<◌, eqb, get_or}
+use Rattle.model.specs.Shapes.{Row, row}
 use Rattle.model.specs.Levels.{Level, level, read_at, sound_levels}
 use Rattle.uppers.specs.declared.Judged.{Judged}
 use Rattle.uppers.specs.Judge.{verdict, sum_levels}

@@ -10,7 +10,7 @@ use borrow.Author.Tests.{eq-eqb, le-leb}
 use lib.ListN.{length, get_or, take, drop, length-drop, drop_of_length-le}
 use lib.Seq.{drop-drop}
 use Rattle.model.specs.Lists.{sum, one_if, by_mark, every}
-use Rattle.model.specs.Walls.{Full, Header, Wall, buckets_in, bucket_length, word_at, read_full, parse, empty_full}
+use Rattle.model.specs.Walls.{Full, Header, buckets_in, bucket_length, word_at, read_full, parse, empty_full}
 use Rattle.model.specs.Sound.{fulls_zero, is_empty_full}
 use Rattle.model.proofs.Tests.{every-at, every_of}
 use Rattle.model.proofs.Tools.{bool_eq, and_tests, tests_and}

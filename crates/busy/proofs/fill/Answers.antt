@@ -1,7 +1,7 @@
 use native.Mathlib.Omega.{arith}
 use native.Mathlib.Nat.{le_trans, le_of_eq}
 use mathlib.Core.Path.{◌≡◌, refl, sym, ap, ◌∙◌, subst}
-use Prim.Native.Nat.{◌+◌, ◌-◌, ◌≤◌, ◌<◌, zero-le}
+use Prim.Native.Nat.{◌+◌, ◌≤◌, ◌<◌, zero-le}
 use lib.ListN.{set}
 use lib.Pow.{pow_mono}
 use Rattle.model.specs.Walls.{flows, parse}

@@ -3,8 +3,7 @@ use native.Mathlib.Omega.{arith}
 use native.Mathlib.Nat.{le_trans, le_of_eq, mod-lt}
 use mathlib.Core.Path.{◌≡◌, refl, sym, ap, ◌∙◌, subst}
 use Rattle.busy.proofs.Turns.{reaches}
-use mathlib.Core.List.{List}
-use Prim.Native.Nat.{ℕ, ◌+◌, ◌-◌, ◌/◌, ◌%◌, ◌<◌}
+use Prim.Native.Nat.{◌/◌, ◌%◌, ◌<◌}
 use lib.Dec.{T, leb, lit<, le→leb}
 use lib.Arith.{lt→nleb}
 use lib.ListN.{get_or}
@@ -49,10 +48,11 @@ loop-slot-preserved c =
     let q = c.count.ensures in
     let n = get_or (counts_at (parse ws) (l.slot / 64)) (l.slot % 64) 0 in
     elim c.if-floor-count.branch [
-    then-floor-count w ↦ let e = w.k-is in
-    (search rules, omega (arith, e, l.invariant.1, sum-last l.slot (reaches ws a.floor), ap one_if (T_true (leb a.floor n) (le→leb a.floor n (omega (arith, w.if-floor-count.true, q))))), omega (arith, e, l.invariant.2), l.invariant.3, l.invariant.4)
-    | else-floor-count w ↦ let e = w.k-is in
-    (search rules, omega (arith, e, l.invariant.1, sum-last l.slot (reaches ws a.floor), ap one_if (T_false (leb a.floor n) (lt→nleb a.floor n (omega (arith, w.if-floor-count.false, q))))), omega (arith, e, l.invariant.2), l.invariant.3, l.invariant.4) ]
+      | then-floor-count w ↦ let e = w.k-is in
+          (search rules, omega (arith, e, l.invariant.1, sum-last l.slot (reaches ws a.floor), ap one_if (T_true (leb a.floor n) (le→leb a.floor n (omega (arith, w.if-floor-count.true, q))))), omega (arith, e, l.invariant.2), l.invariant.3, l.invariant.4)
+      | else-floor-count w ↦ let e = w.k-is in
+          (search rules, omega (arith, e, l.invariant.1, sum-last l.slot (reaches ws a.floor), ap one_if (T_false (leb a.floor n) (lt→nleb a.floor n (omega (arith, w.if-floor-count.false, q))))), omega (arith, e, l.invariant.2), l.invariant.3, l.invariant.4)
+    ]
 
 pub returns : goal.returns
 returns c =

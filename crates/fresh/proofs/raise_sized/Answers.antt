@@ -59,8 +59,7 @@ write-requires c =
     let full_passed : T (full_fits (header_of c.args.v)) = passed c.full_fits.result (full_fits (header_of c.args.v)) c.full_fits.ensures (not_from_true _ c.if-not-full_fits.false) in
     let spread_passed : T (valid_spread c.args.v.bits c.args.v.spread) = let v = c.args.v in
     passed c.valid-valid.result (valid_spread v.bits v.spread) c.valid-valid.ensures (not_from_true _ c.if-not-valid.false) in
-    let length_passed : T (eqb (length c.args.words.now) (wall_size (header_of c.args.v))) = eq-eqb (c.if-not-exact.false ∙ c.size.ensures) in
-    (
+    let length_passed : T (eqb (length c.args.words.now) (wall_size (header_of c.args.v))) = eq-eqb (c.if-not-exact.false ∙ c.size.ensures) in (
       c.requires,
       full_most (header_of c.args.v) full_passed,
       spread-fits c.args.v.bits c.args.v.spread c.requires.bits_high spread_passed,

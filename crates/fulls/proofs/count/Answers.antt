@@ -1,5 +1,4 @@
 use mathlib.Core.Path.{sym, ◌∙◌}
-use Prim.Native.Nat.{◌-◌}
 use Rattle.fulls.proofs.Places.{own-count, moved-count}
 use Rattle.fulls.specs.Fulls.{own_in}
 use Rattle.fulls.proofs.count.Goals as goal

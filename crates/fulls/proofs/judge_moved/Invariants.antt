@@ -1,4 +1,3 @@
-use Prim.Native.Nat.{◌-◌}
 use Rattle.fulls.specs.Fulls.{own_in}
 use Rattle.fulls.proofs.Walk.{Going}
 use Rattle.fulls.proofs.judge_moved.Given as goal

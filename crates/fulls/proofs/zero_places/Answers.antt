@@ -1,6 +1,6 @@
 use borrow.Author.Rules.{rules}
 use mathlib.Core.Path.{◌≡◌, ◌∙◌, subst}
-use Prim.Native.Nat.{◌+◌, ◌-◌, ◌<◌}
+use Prim.Native.Nat.{◌<◌}
 use native.Mathlib.Omega.{arith}
 use Rattle.moves.specs.Full.{full_at}
 use Rattle.fulls.specs.Fulls.{zero_places}
@@ -17,8 +17,9 @@ loop-a-preserved c =
     let a = c.args in
     let h : l.a < 64 = omega (arith, c.loop-a-test.true) in
     elim c.if-words-f-eq0.branch [
-    then-words-f-eq0 w ↦ (search rules, omega arith, w.zeros-is ∙ zero_more a.words.now a.f l.a l.zeros h l.invariant.2 w.if-words-f-eq0.true)
-    | else-words-f-eq0 w ↦ (search rules, omega arith, w.zeros-is ∙ zero_same a.words.now a.f l.a l.zeros h l.invariant.2 w.if-words-f-eq0.false) ]
+      | then-words-f-eq0 w ↦ (search rules, omega arith, w.zeros-is ∙ zero_more a.words.now a.f l.a l.zeros h l.invariant.2 w.if-words-f-eq0.true)
+      | else-words-f-eq0 w ↦ (search rules, omega arith, w.zeros-is ∙ zero_same a.words.now a.f l.a l.zeros h l.invariant.2 w.if-words-f-eq0.false)
+    ]
 
 pub returns : goal.returns
 returns c =

@@ -5,7 +5,7 @@ use Rattle.model.proofs.Lists.{Below}
 use mir.Syntax.{w64}
 use mir.Val.{Fits}
 use lib.ListN.{length, get_or}
-use Prim.Native.Nat.{ℕ, ◌%◌, ◌^◌}
+use Prim.Native.Nat.{◌%◌, ◌^◌}
 use mathlib.Core.Path.{◌≡◌, refl, ap, ◌∙◌}
 use borrow.Author.Rules.{rules}
 use Rattle.parts.proofs.step_default.Goals as goal

@@ -4,7 +4,7 @@ use native.Mathlib.Nat.{mod-lt}
 use native.Mathlib.Omega.{arith}
 use lib.ListN.{drop, length}
 use lib.Pow.{pow_pos}
-use Rattle.model.specs.Packed.{pack, bit, rank}
+use Rattle.model.specs.Packed.{pack}
 use Rattle.reads.proofs.Reading.{place-fits, count_stop, count_on}
 use Rattle.reads.proofs.count.Goals as goal
 

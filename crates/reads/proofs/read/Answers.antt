@@ -1,7 +1,6 @@
 use mathlib.Core.Path.{sym, ◌∙◌}
-use Prim.Native.Nat.{◌+◌, ◌-◌, ◌*◌, ◌^◌, ◌<◌}
+use Prim.Native.Nat.{◌+◌, ◌*◌, ◌^◌, ◌<◌}
 use native.Mathlib.Omega.{arith}
-use Rattle.model.specs.Packed.{entry, bit}
 use Rattle.reads.proofs.Reading.{trail, before_last, last-level, part_small, trail_end, trail_stop, trail_on}
 use Rattle.reads.proofs.read.Goals as goal
 

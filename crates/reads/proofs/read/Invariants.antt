@@ -1,4 +1,4 @@
-use Prim.Native.Nat.{◌+◌, ◌-◌, ◌*◌, ◌^◌}
+use Prim.Native.Nat.{◌+◌, ◌*◌, ◌^◌}
 use Rattle.uppers.specs.Uppers.{read_by}
 use Rattle.reads.proofs.Reading.{Trail}
 use Rattle.reads.proofs.read.Given as goal

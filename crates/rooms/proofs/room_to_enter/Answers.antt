@@ -1,4 +1,3 @@
-use Prim.Native.Nat.{◌-◌}
 use native.Mathlib.Omega.{arith}
 use Rattle.rooms.proofs.Rooms.{rooming, narrow, marked, room-full, room_fits, room-last, room_on}
 use Rattle.rooms.proofs.room_to_enter.Goals as goal

@@ -1,4 +1,3 @@
-use Prim.Native.Nat.{◌-◌}
 use Rattle.rooms.proofs.Rooms.{Rooming}
 use Rattle.rooms.proofs.room_to_enter.Given as goal
 

@@ -1,5 +1,4 @@
 use mathlib.Core.Path.{sym, ◌∙◌}
-use Prim.Native.Nat.{◌-◌}
 use native.Mathlib.Omega.{arith}
 use Rattle.rooms.proofs.Raises.{raising, narrow, marked, ahead_next, raise_stays, raise-last, raise_enters, raise_on}
 use Rattle.rooms.proofs.room_to_raise.Goals as goal

@@ -1,4 +1,3 @@
-use Prim.Native.Nat.{◌-◌}
 use Rattle.rooms.proofs.Raises.{Raising}
 use Rattle.rooms.proofs.room_to_raise.Given as goal
 

@@ -1,10 +1,10 @@
 use mathlib.Core.Path.{◌≡◌, refl, ◌∙◌}
-use Prim.Native.Nat.{zero-le, ◌+◌, ◌-◌, ◌*◌, ◌/◌, ◌^◌, ◌≤◌}
+use Prim.Native.Nat.{zero-le, ◌+◌, ◌*◌, ◌^◌, ◌≤◌}
 use native.Mathlib.Omega.{arith}
 use lib.ListN.{drop}
 use lib.Pow.{pow_mono}
 use Rattle.model.specs.Packed.{pack}
-use Rattle.sums.proofs.Lanes.{mask, mask_div}
+use Rattle.sums.proofs.Lanes.{mask_div}
 use Rattle.sums.proofs.Chunks.{Added, added_none, added_one, added_lt, added_all, chunk_le, chunk-fits, chunk_some, sixty_four}
 use Rattle.sums.proofs.Sums.{first-sum}
 use Rattle.sums.proofs.sum_lanes.Goals as goal

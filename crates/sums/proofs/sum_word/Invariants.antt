@@ -1,5 +1,5 @@
 use mathlib.Core.Path.{◌≡◌}
-use Prim.Native.Nat.{◌+◌, ◌-◌}
+use Prim.Native.Nat.{◌+◌}
 use Rattle.model.specs.Lists.{sum}
 use Rattle.model.specs.Packed.{unpack}
 use Rattle.sums.proofs.sum_word.Given as goal

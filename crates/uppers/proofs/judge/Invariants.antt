@@ -1,4 +1,4 @@
-use Prim.Native.Nat.{◌+◌, ◌-◌}
+use Prim.Native.Nat.{◌+◌}
 use lib.Count.{ones}
 use Rattle.uppers.specs.Uppers.{judged}
 use Rattle.uppers.proofs.Uppers.{Walk}

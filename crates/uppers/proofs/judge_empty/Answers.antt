@@ -1,5 +1,4 @@
 use mathlib.Core.Path.{refl, ◌∙◌}
-use Prim.Native.Nat.{◌-◌}
 use native.Mathlib.Omega.{arith}
 use Rattle.uppers.proofs.Uppers.{zero_end, zero-next, zero-some}
 use Rattle.uppers.proofs.judge_empty.Goals as goal

@@ -1,5 +1,5 @@
 use mathlib.Core.Path.{◌≡◌}
-use Prim.Native.Nat.{◌+◌, ◌-◌}
+use Prim.Native.Nat.{◌+◌}
 use Rattle.uppers.specs.Uppers.{zero_words}
 use Rattle.uppers.proofs.judge_empty.Given as goal
 

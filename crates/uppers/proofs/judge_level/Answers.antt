@@ -1,5 +1,5 @@
 use mathlib.Core.Path.{sym, ◌∙◌}
-use Prim.Native.Nat.{◌+◌, ◌-◌, ◌/◌, ◌%◌, ◌^◌, ◌<◌}
+use Prim.Native.Nat.{◌+◌, ◌/◌, ◌%◌, ◌^◌, ◌<◌}
 use native.Mathlib.Omega.{arith}
 use Rattle.model.specs.Packed.{bit}
 use Rattle.uppers.proofs.Level.{some_left, some_right, Summing, summing, level-empty, level-next, above_le, taken_le, level-high, level-done}
@@ -18,8 +18,9 @@ kept c =
     let a = c.args in
     let p = c.pow2-p in
     elim c.if-x-p-eq0.branch [
-    then-x-p-eq0+else-bit-eq0 w ↦ some_right (l.x % 2 ^ a.w) (bit a.marks l.i) w.bit.result w.bit.ensures w.if-bit-eq0.false
-    | else-x-p-eq0 w ↦ some_left (l.x % 2 ^ a.w) (bit a.marks l.i) (rw p.ensures.0 at w.if-x-p-eq0.false) ]
+      | then-x-p-eq0+else-bit-eq0 w ↦ some_right (l.x % 2 ^ a.w) (bit a.marks l.i) w.bit.result w.bit.ensures w.if-bit-eq0.false
+      | else-x-p-eq0 w ↦ some_left (l.x % 2 ^ a.w) (bit a.marks l.i) (rw p.ensures.0 at w.if-x-p-eq0.false)
+    ]
 
 more : (c : goal.Joined-x-p-eq0) → let a = c.args in let l = c.loop-i in Summing a.w a.n a.cells a.marks (l.x / 2 ^ a.w) (l.i + 1) (l.above + l.x / 2 ^ a.w)
 more c = level-next c.loop-i.invariant c.loop-i-test.true (kept c)

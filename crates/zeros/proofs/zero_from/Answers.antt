@@ -1,5 +1,4 @@
 use mathlib.Core.Path.{refl, sym, ◌∙◌}
-use Prim.Native.Nat.{◌-◌}
 use Rattle.zeros.proofs.Laws.{one_more, at-end}
 use Rattle.zeros.proofs.zero_from.Goals as goal
 

@@ -4,7 +4,6 @@ use Rattle.growth.proofs.Coming.{going, level-here, bits-here, entry_64, shift_a
 use lib.ListN.{length}
 use lib.Dec.{lit<}
 use native.Mathlib.Omega.{arith}
-use Prim.Native.Nat.{◌<◌}
 use Rattle.growth.proofs.Upper.grow.Goals as goal
 
 four : (c : goal.Start) → length c.args.self.words ≡ 4
