@@ -2,7 +2,7 @@
  * A probe: a million packets of 65,536 flows, of which the busiest has twice as many as the second, three times as many as the third and so on (Zipf's law),
  * numbered in no order. They are counted in a wall and, to show that it is exact, in a plain array beside it.
  *
- *     (cd crates/card && rt lib) && cc -O2 -I include examples/probe.c crates/card/out/libcard.a -o probe && ./probe
+ *     (cd crates/card && rt lib --cpu=x86-64) && cc -O2 -I include examples/probe.c crates/card/out/libcard.a -o probe && ./probe
  */
 #include "wall.h"
 

@@ -4,7 +4,7 @@
  *     libhost.a  wall_slot, wall_limits, wall_image: where a flow stands, how far a counter goes, one word of an image.
  *     libcard.a  wall_raise, wall_lookup, wall_increment, wall_check, wall_busy, wall_close: the calls over a wall. It uses memcpy and memset.
  *
- * `rt lib` in crates/host and in crates/card builds crates/host/out/libhost.a and crates/card/out/libcard.a. A program may link either or both.
+ * `rt lib --cpu=x86-64` in crates/host and in crates/card builds out/libhost.a and out/libcard.a there. A program may link either or both.
  *
  * No call allocates, keeps a pointer or has a state of its own. Each answers a number and a value. The number is WALL_DONE, or says why the call was
  * refused; where several reasons apply, it is the first of them in the order in which the call's comment names them. A refusal changes no word, of a wall
