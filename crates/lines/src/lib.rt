@@ -1,6 +1,6 @@
 #![tactic(auto)]
 
-ghost use Rattle.std.specs.Prelude.{◌≡◌, ◌++◌, ◌≤◌, length, drop};
+ghost use Rattle.std.specs.Prelude.{◌≡◌, ◌≢◌, ◌++◌, ℕ, ◌≤◌, ◌<◌, length, drop, slice_index};
 ghost use Rattle.lines.specs.Transcript.{answers, lines_of, transcript, words_after, words_of};
 ghost use Rattle.texts.specs.Writing.{Room, Wrote};
 
@@ -10,6 +10,15 @@ use read::Flow;
 
 // The most bytes of input that are read as lines.
 pub const INPUT: usize = 65536;
+
+// How long the first line is, of what is left of the input.
+fn line_end(rest: &[u8]) -> usize
+    ensures within { result ≤ length rest.now }
+    ensures before { (k : ℕ) → k < result → slice_index rest.now k ≢ 10 }
+    ensures found { result < length rest.now → slice_index rest.now result ≡ 10 }
+{
+    rest.iter().position(|c| *c == b'\n').unwrap_or(rest.len())
+}
 
 // Each line of the input in turn. `lines` shows that there is room.
 fn each_line(input: &[u8], words: &mut [u64], out: &mut [u8]) -> usize
@@ -21,7 +30,7 @@ fn each_line(input: &[u8], words: &mut [u64], out: &mut [u8]) -> usize
     let mut end = 0;
     while at < input.len() {
         let rest = &input[at..];
-        let n = bytes::scan::find(rest, 0, rest.len(), b'\n');
+        let n = line_end(rest);
         let Flow::Number(flow) = read::flow_in(&rest[..n]) else {
             return texts::bad_line(out, end, line);
         };
