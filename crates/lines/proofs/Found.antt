@@ -61,13 +61,13 @@ pub record Read (l : List ℕ) (i v : ℕ) : Type 0 where
   pub value : value_after 0 l ≡ value_after v (drop i l)
   pub small : v < 10 ^ i
 
-pub flow-none : (l : List ℕ) → length l < 1 → Bad ≡ flow_of l
+pub flow_none : (l : List ℕ) → length l < 1 → Bad ≡ flow_of l
 unfolding is_flow
-flow-none l h = rw (lt-leb 1 (length l) h)
+flow_none l h = rw (lt-leb 1 (length l) h)
 
-pub flow-long : (l : List ℕ) → 7 < length l → Bad ≡ flow_of l
+pub flow_long : (l : List ℕ) → 7 < length l → Bad ≡ flow_of l
 unfolding is_flow
-flow-long l h = rw (le-leb 1 (length l) (omega arith), lt-leb (length l) 7 h)
+flow_long l h = rw (le-leb 1 (length l) (omega arith), lt-leb (length l) 7 h)
 
 pub read_none : (l : List ℕ) → 1 ≤ length l → length l ≤ 7 → Read l 0 0
 read_none l h k = record { within = omega arith; short = k; long = h; digits = refl; value = refl; small = omega arith }

@@ -23,7 +23,8 @@ fn line_end(rest: &[u8]) -> usize
 // Each line of the input in turn. `lines` shows that there is room.
 fn each_line(input: &[u8], words: &mut [u64], out: &mut [u8]) -> usize
     requires { Room out.old 0 (answers 1 (lines_of input.now) words.old) }
-    ensures { Wrote out.old 0 (answers 1 (lines_of input.now) words.old) out.new result × (words.new ≡ words_of (lines_of input.now) words.old) }
+    ensures written { Wrote out.old 0 (answers 1 (lines_of input.now) words.old) out.new result }
+    ensures words { words.new ≡ words_of (lines_of input.now) words.old }
 {
     let mut at = 0;
     let mut line: u64 = 1;
@@ -44,7 +45,9 @@ fn each_line(input: &[u8], words: &mut [u64], out: &mut [u8]) -> usize
 // The whole output for the whole input, over the wall in the words: how many bytes of `out` it takes. `count::respond` shows that there is room.
 pub fn lines(input: &[u8], words: &mut [u64], out: &mut [u8]) -> usize
     requires { length (transcript input.now words.old) ≤ length out.old }
-    ensures { (result ≡ length (transcript input.now words.old)) × (out.new ≡ transcript input.now words.old ++ drop result out.old) × (words.new ≡ words_after input.now words.old) }
+    ensures size { result ≡ length (transcript input.now words.old) }
+    ensures output { out.new ≡ transcript input.now words.old ++ drop result out.old }
+    ensures words { words.new ≡ words_after input.now words.old }
 {
     if INPUT < input.len() {
         return texts::text(out, 0, b"bad input\n");

@@ -5,7 +5,7 @@ use Rattle.lines.proofs.Turns.{Done}
 use Rattle.lines.proofs.each_line.Given as goal
 
 abbrev pub invariant-loop-at : goal.invariant-loop-at
-invariant-loop-at l = Done l.input l.initial.words l.initial.out l.words l.out l.at l.line l.end × (length l.words ≡ length l.initial.words) × (length l.out ≡ length l.initial.out)
+invariant-loop-at l = Done l.input l.initial.words l.initial.out l.words l.out l.at l.line l.end
 
 abbrev pub decreases-loop-at : goal.decreases-loop-at
 decreases-loop-at l = length l.input - l.at

@@ -14,7 +14,7 @@ returns-then-input-gt-INPUT c =
     let input = c.args.input.now in
     let ws = c.args.words.now in
     let f = front c.text.ensures in
-    rw (too_long input ws (omega arith), words_stay input ws (omega arith)) (f.0, f.1, refl)
+    rw (too_long input ws (omega arith), words_stay input ws (omega arith)) record { size = f.0; output = f.1; words = refl }
 
 pub each_line-requires : goal.each_line-requires
 each_line-requires c =
@@ -26,5 +26,5 @@ pub returns : goal.returns
 returns c =
     let input = c.args.input.now in
     let ws = c.args.words.now in
-    let f = front c.each_line.ensures.0 in
-    rw (by_lines input ws (omega arith), words-by_lines input ws (omega arith)) (f.0, f.1, c.each_line.ensures.1)
+    let f = front c.each_line.ensures.written in
+    rw (by_lines input ws (omega arith), words-by_lines input ws (omega arith)) record { size = f.0; output = f.1; words = c.each_line.ensures.words }
