@@ -10,11 +10,15 @@ ghost use Rattle.count.specs.Examples.{Examples};
 use std::io;
 use std::io::{Read, Write};
 
-// What the program writes for the n bytes that it read: the first bytes of `out`. `main` shows that these are enough, and that its buffer
+// What the program writes for the n bytes that it read: the first bytes of `out`. `run` shows that these are enough, and that its buffer
 // holds more than the longest input.
 fn respond(input: &[u8], n: usize, out: &mut [u8]) -> usize
-    requires { (65536 < length input.now) × (n ≤ length input.now) × (262208 ≤ length out.old) }
-    ensures output { (result ≡ length (program (take n input.now))) × (out.new ≡ program (take n input.now) ++ drop result out.old) × IsPrefixLen result out.new }
+    requires longer { 65536 < length input.now }
+    requires within { n ≤ length input.now }
+    requires room { 262208 ≤ length out.old }
+    ensures size { result ≡ length (program (take n input.now)) }
+    ensures output { out.new ≡ program (take n input.now) ++ drop result out.old }
+    ensures prefix { IsPrefixLen result out.new }
     ensures examples { Examples }
 {
     let mut words = [0u64; 74];

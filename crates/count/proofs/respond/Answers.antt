@@ -19,15 +19,15 @@ unfolding raised
 wall e = ap (λ (r : Outcome). r.words) e
 
 pub lines-requires : goal.lines-requires
-lines-requires c = le_trans (rw (wall c.raise.ensures) (size (take c.args.n c.args.input.now) raised small)) c.requires.2
+lines-requires c = le_trans (rw (wall c.raise.ensures) (size (take c.args.n c.args.input.now) raised small)) c.requires.room
+
+pub returns-clause-size : goal.returns-clause-size
+unfolding program
+returns-clause-size c = rw (wall c.raise.ensures) at c.lines.ensures.size
 
 pub returns-clause-output : goal.returns-clause-output
 unfolding program
-returns-clause-output c =
-    let e = rw (wall c.raise.ensures) at c.lines.ensures in
-    let n = ap length e.1 ∙ length-append (program (take c.args.n c.args.input.now)) (drop c.lines.result c.args.out.now) in
-    let w : c.lines.result ≤ length c.lines.new.out = omega (arith, e.0, n) in
-    (e.0, e.1, (w, sym (length-take-le c.lines.result c.lines.new.out w)))
+returns-clause-output c = rw (wall c.raise.ensures) at c.lines.ensures.output
 
 pub returns-clause-examples : goal.returns-clause-examples
 returns-clause-examples c = known.examples
