@@ -1,6 +1,5 @@
-use Rattle.std.proofs.Common.{◌≡◌, ℕ, ◌+◌, ◌≤◌, List, length, take, drop, replicate, sym, ap, ◌∙◌, arith, length-append}
+use Rattle.std.proofs.Common.{◌≡◌, take, replicate, ap, arith}
 use Rattle.std.proofs.Math.Nat.{le_trans}
-use Rattle.std.proofs.Math.Seq.{length-take-le}
 use Rattle.model.specs.Walls.{fresh}
 use Rattle.model.specs.Calls.{Outcome, ask, raise}
 use Rattle.lines.proofs.Kept.{Small}

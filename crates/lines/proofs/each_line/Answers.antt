@@ -1,4 +1,4 @@
-use Rattle.std.proofs.Common.{arith, refl, rules}
+use Rattle.std.proofs.Common.{arith}
 use Rattle.lines.proofs.Found.{ends, next, bad_in, flow-in}
 use Rattle.lines.proofs.Turns.{done_none, total-room, total-done, total-words, bad_room, bad_done, bad_words, flow-room, flow-done}
 use Rattle.lines.proofs.each_line.Goals as goal
