@@ -7,6 +7,7 @@ ghost use Rattle.count.specs.Program.{program};
 ghost use Rattle.count.specs.Failures.{IfUnread};
 ghost use Rattle.count.specs.Examples.{Examples};
 
+use std::fmt::InlineText;
 use std::io;
 use std::io::{Read, Write};
 
@@ -77,17 +78,17 @@ fn words(text: &str) -> &str {
     }
 }
 
-// What failed, and the system's words for it, on standard error.
-fn say(rt: &(impl Eprint + Alloc), what: &str, error: &io::Error) -> io::Result<()> {
-    let text = format!(in rt.alloc(); "{error}")?;
-    let words = words(&text);
-    eprintln!(rt; "count: {what}: {words}")
+// What failed, and the system's words for it, on standard error. Where that fails too, nothing is said.
+fn say(rt: &impl Eprint, what: &str, error: &io::Error) {
+    let text = InlineText::<256>::of(error);
+    let words = words(text.as_str());
+    let _ = eprintln!(rt; "count: {what}: {words}");
 }
 
 // A failed read or write is said on standard error.
-fn main(rt: HostRuntime) -> io::Result<()> {
+fn main(rt: HostRuntime) {
     match run(&mut rt.stdin(), &mut rt.stdout()) {
-        Ok(()) => Ok(()),
+        Ok(()) => {}
         Err(Failure::Read(error)) => say(&rt, "read", &error),
         Err(Failure::Write(error)) => say(&rt, "write", &error),
     }
