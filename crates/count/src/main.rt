@@ -1,6 +1,7 @@
 #![tactic(auto)]
 
 ghost use Rattle.std.specs.Prelude.{◌≡◌, ◌++◌, ℕ, ◌≤◌, ◌<◌, length, take, drop, IfOk, IfErr, IfSome, OnOk, OnErr};
+ghost use Rattle.std.specs.Io.{StartsWith};
 ghost use Rattle.std.specs.Io.KnownBytes.{Appends, Consumes, Keeps};
 ghost use Rattle.io.specs.Counts.{IsPrefixLen};
 ghost use Rattle.count.specs.Program.{program};
@@ -71,7 +72,9 @@ fn run<R: Read, W: Write>(reader: &mut R, writer: &mut W) -> Result<(), Failure>
 }
 
 // The system's words for an error, without the number that std puts after them.
-fn words(text: &str) -> &str {
+fn words(text: &str) -> &str
+    ensures { StartsWith text.now result.now }
+{
     match text.find(" (os error ") {
         Some(n) => &text[..n],
         None => text,
