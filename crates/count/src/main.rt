@@ -1,54 +1,98 @@
 #![tactic(auto)]
 
-ghost use Rattle.std.specs.Prelude.{◌≡◌, ◌++◌, ◌≤◌, ◌<◌, length, take, drop};
-ghost use Rattle.libc.specs.Io.{Moved};
+ghost use Rattle.std.specs.Prelude.{◌≡◌, ◌++◌, ℕ, ◌≤◌, ◌<◌, length, take, drop, IfOk, IfErr, IfSome, OnOk, OnErr};
+ghost use Rattle.std.specs.Io.{StartsWith};
+ghost use Rattle.std.specs.Io.KnownBytes.{Appends, Consumes, Keeps};
 ghost use Rattle.io.specs.Counts.{IsPrefixLen};
 ghost use Rattle.count.specs.Program.{program};
+ghost use Rattle.count.specs.Failures.{IfUnread};
+ghost use Rattle.count.specs.Examples.{Examples};
 
-use libc::{STDIN_FILENO, STDOUT_FILENO};
+use std::fmt::InlineText;
+use std::io;
+use std::io::{Read, Write};
 
-// What the program writes for the n bytes that it read: the first bytes of `out`. `main` shows that these are enough, and that its buffer
+// What the program writes for the n bytes that it read: the first bytes of `out`. `run` shows that these are enough, and that its buffer
 // holds more than the longest input.
 fn respond(input: &[u8], n: usize, out: &mut [u8]) -> usize
-    requires { (65536 < length input.now) × (n ≤ length input.now) × (262208 ≤ length out.old) }
-    ensures { (result ≡ length (program (take n input.now))) × (out.new ≡ program (take n input.now) ++ drop result out.old) × IsPrefixLen result out.new }
+    requires longer { 65536 < length input.now }
+    requires within { n ≤ length input.now }
+    requires room { 262208 ≤ length out.old }
+    ensures size { result ≡ length (program (take n input.now)) }
+    ensures output { out.new ≡ program (take n input.now) ++ drop result out.old }
+    ensures prefix { IsPrefixLen result out.new }
+    ensures examples { Examples }
 {
     let mut words = [0u64; 74];
     fresh::raise(&mut words, 3, 1, 6, 100, 1, 0);
     lines::lines(&input[..n], &mut words, out)
 }
 
-// Reads until the buffer is full or the input ends: how many bytes, or -1 where a read failed.
-fn read_whole(buf: &mut [u8]) -> isize
-    ensures { Moved (length buf.old) result }
+// Reads until the buffer is full or the input ends: how many bytes. Where a read fails, the first bytes of the buffer are those read before.
+fn read_whole<R: Read>(reader: &mut R, buf: &mut [u8]) -> io::Result<usize>
+    ensures bound { IfOk result (λ n. IsPrefixLen n buf.new) }
+    ensures front { IfOk result (λ n. IfSome (R.remaining reader.old) (λ input. take n buf.new ≡ take (length buf.old) input)) }
+    ensures rest { IfOk result (λ n. Consumes (R.remaining reader.old) (R.remaining reader.new) (take n buf.new)) }
+    ensures failed { OnErr result ((n : ℕ) × (n ≤ length buf.new) × Consumes (R.remaining reader.old) (R.remaining reader.new) (take n buf.new)) }
 {
     let mut done = 0;
     while done < buf.len() {
-        let got = libc::read(STDIN_FILENO, &mut buf[done..]);
-        if got < 0 {
-            return -1;
-        }
-        let n = io::count(got, &buf[done..]);
+        let n = reader.read(&mut buf[done..])?;
         if n == 0 {
-            return done as isize;
+            return Ok(done);
         }
         done += n;
     }
-    done as isize
+    Ok(done)
 }
 
-// One byte more than the longest input is read, to know one that is longer. A failed read or write is said on standard error.
-fn main() {
+// A read or a write that failed.
+#[derive(Debug, Drop)]
+enum Failure {
+    Read(io::Error),
+    Write(io::Error),
+}
+
+// The whole program: one byte more than the longest input is read, to know one that is longer. Where a read fails, nothing is written.
+fn run<R: Read, W: Write>(reader: &mut R, writer: &mut W) -> Result<(), Failure>
+    ensures written { OnOk result (IfSome (R.remaining reader.old) (λ input. Appends (W.contents writer.old) (W.contents writer.new) (program input))) }
+    ensures unread { IfErr result (λ failure. IfUnread failure (Keeps (W.contents writer.old) (W.contents writer.new))) }
+{
     let mut input = [0u8; 65537];
-    let got = read_whole(&mut input);
-    if got < 0 {
-        os::fail(b"count: read");
-        return;
-    }
-    let n = io::count(got, &input);
+    let n = match read_whole(reader, &mut input) {
+        Ok(n) => n,
+        Err(error) => return Err(Failure::Read(error)),
+    };
     let mut out = [0u8; 262208];
     let written = respond(&input, n, &mut out);
-    if !io::write_all(STDOUT_FILENO, &out[..written]) {
-        os::fail(b"count: write");
+    match writer.write_all(&out[..written]) {
+        Ok(()) => Ok(()),
+        Err(error) => Err(Failure::Write(error)),
+    }
+}
+
+// The system's words for an error, without the number that std puts after them.
+fn words(text: &str) -> &str
+    ensures { StartsWith text.now result.now }
+{
+    match text.find(" (os error ") {
+        Some(n) => &text[..n],
+        None => text,
+    }
+}
+
+// What failed, and the system's words for it, on standard error. Where that fails too, nothing is said.
+fn say(rt: &impl Eprint, what: &str, error: &io::Error) {
+    let text = InlineText::<256>::of(error);
+    let words = words(text.as_str());
+    let _ = eprintln!(rt; "count: {what}: {words}");
+}
+
+// A failed read or write is said on standard error.
+fn main(rt: HostRuntime) {
+    match run(&mut rt.stdin(), &mut rt.stdout()) {
+        Ok(()) => {}
+        Err(Failure::Read(error)) => say(&rt, "read", &error),
+        Err(Failure::Write(error)) => say(&rt, "write", &error),
     }
 }

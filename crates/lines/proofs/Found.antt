@@ -1,42 +1,54 @@
 -- Lines in what is left of the input, and the number in a line.
-use mathlib.Core.Path.{◌≡◌, refl, ap, ◌∙◌}
-use mathlib.Core.Bool.{Bool, true, false}
-use mathlib.Core.List.{List, [], ◌∷◌, map}
-use Prim.Native.Nat.{ℕ, suc, ◌+◌, ◌-◌, ◌*◌, ◌^◌, ◌≤◌, ◌<◌}
-use native.Mathlib.Nat.{pow-suc, pow-le-pow_right, zero-lt-suc, zero-add, le_refl}
-use native.Mathlib.Numerals.{add-one}
-use native.Mathlib.Omega.{arith}
 use borrow.Author.Tests.{le-leb, lt-leb}
-use lib.Dec.{eqb}
-use lib.ListN.{length, get_or, take, drop}
-use lib.Seq.{drop-cons, drop-length, take_all}
+use Rattle.std.proofs.Common.{◌≡◌, refl, sym, ap, ◌∙◌, Bool, true, false, cond, not, List, [], ◌∷◌, map, ℕ, ◌+◌, ◌-◌, ◌*◌, ◌^◌, ◌≤◌, ◌<◌, add-one, one-add, arith, eqb, length, get_or, take, drop, length-drop}
+use Rattle.std.proofs.Math.Nat.{pow-suc, pow-le-pow_right, zero-lt-suc}
+use Rattle.std.proofs.Math.Seq.{drop-cons, drop-length, take_all}
+use Rattle.std.proofs.lemmas.List.Sums.{position_or_len_is}
+use Rattle.std.specs.List.{position_or_len}
 use Rattle.model.specs.Lists.{choose, all}
-use Rattle.bytes.specs.Bytes.{index_of, index_after, slice}
 use Rattle.lines.specs.declared.read.Flow.TheVariants.{Number, Bad}
 use Rattle.lines.specs.Transcript.{lines_of, in_front, is_digit, is_flow, value_after, value_of, flow_of}
 
 -- ---- the first line
 
+-- how long it is
+abbrev pub line_end : List ℕ → ℕ
+line_end s = position_or_len (λ c. eqb c 10) s
+
 -- b says whether c is a newline, and k where the first newline of s stands
-by-newline : (c : ℕ) (s : List ℕ) (k : ℕ) (b : Bool) → in_front c (lines_of s) ≡ (c ∷ take k s) ∷ lines_of (drop (suc k) s) → choose b ([] ∷ lines_of s) (in_front c (lines_of s)) ≡ take (index_after b k) (c ∷ s) ∷ lines_of (drop (suc (index_after b k)) (c ∷ s))
-unfolding index_after
+by-newline : (c : ℕ) (s : List ℕ) (k : ℕ) (b : Bool) → in_front c (lines_of s) ≡ (c ∷ take k s) ∷ lines_of (drop (k + 1) s) → choose b ([] ∷ lines_of s) (in_front c (lines_of s)) ≡ take (cond (not b) (1 + k) 0) (c ∷ s) ∷ lines_of (drop (cond (not b) (1 + k) 0 + 1) (c ∷ s))
 by-newline c s k true e = refl
-by-newline c s k false e = e
+by-newline c s k false e = rw (add-one (1 + k), one-add k) (rw (add-one k) at e)
 
-in-front : (c : ℕ) (s : List ℕ) → in_front c (lines_of s) ≡ (c ∷ take (index_of 10 s) s) ∷ lines_of (drop (suc (index_of 10 s)) s)
-unfolding lines_of index_of
+in-front : (c : ℕ) (s : List ℕ) → in_front c (lines_of s) ≡ (c ∷ take (line_end s) s) ∷ lines_of (drop (line_end s + 1) s)
+unfolding lines_of
 in-front c [] = refl
-in-front c (d ∷ s) = ap (in_front c) (by-newline d s (index_of 10 s) (eqb d 10) (in-front d s))
+in-front c (d ∷ s) = ap (in_front c) (by-newline d s (line_end s) (eqb d 10) (in-front d s))
 
-pub lines_cut : (s : List ℕ) → 0 < length s → lines_of s ≡ take (index_of 10 s) s ∷ lines_of (drop (index_of 10 s + 1) s)
-unfolding lines_of index_of
+pub lines_cut : (s : List ℕ) → 0 < length s → lines_of s ≡ take (line_end s) s ∷ lines_of (drop (line_end s + 1) s)
+unfolding lines_of
 lines_cut [] h = absurd (omega arith)
-lines_cut (c ∷ s) h = rw (add-one (index_of 10 (c ∷ s))) (by-newline c s (index_of 10 s) (eqb c 10) (in-front c s))
+lines_cut (c ∷ s) h = by-newline c s (line_end s) (eqb c 10) (in-front c s)
 
--- the first newline found in all of s
-pub found : (s : List ℕ) (n : ℕ) → n ≡ 0 + index_of 10 (slice 0 (length s) s) → n ≡ index_of 10 s
-unfolding slice
-found s n e = e ∙ rw (zero-add (index_of 10 (take (length s) s)), take_all (length s) s (le_refl (length s)))
+-- what the code finds in the rest of the input
+rest-is : (input : List ℕ) (at : ℕ) → take (length input - at) (drop at input) ≡ drop at input
+rest-is input at = take_all (length input - at) (drop at input) (simp length-drop (omega arith))
+
+module _ (input : List ℕ) (at n : ℕ) where
+  abbrev pub rest : List ℕ
+  rest = take (length input - at) (drop at input)
+
+  pub ends : n ≤ length rest → ((k : ℕ) → k < n → get_or rest k 0 ≡ 10 → ⊥) → (n < length rest → get_or rest n 0 ≡ 10) → n ≡ line_end (drop at input)
+  ends h b f = sym (position_or_len_is (λ c. eqb c 10) rest n 0 h (λ k l. grind (arith, b k l)) (λ l. grind (arith, f l))) ∙ rw (rest-is input at) refl
+
+  pub next : at < length input → n ≤ length rest → at + n ≤ length input
+  next h l = omega (arith, simp (length-drop) at (rw (rest-is input at) at l))
+
+  pub bad_in : Bad ≡ flow_of (take n rest) → Bad ≡ flow_of (take n (drop at input))
+  bad_in e = rw (rest-is input at) at e
+
+  pub flow-in : {y : ℕ} → Number y ≡ flow_of (take n rest) → Number y ≡ flow_of (take n (drop at input))
+  flow-in e = rw (rest-is input at) at e
 
 -- ---- the number in a line
 
@@ -49,13 +61,13 @@ pub record Read (l : List ℕ) (i v : ℕ) : Type 0 where
   pub value : value_after 0 l ≡ value_after v (drop i l)
   pub small : v < 10 ^ i
 
-pub flow-none : (l : List ℕ) → length l < 1 → Bad ≡ flow_of l
+pub flow_none : (l : List ℕ) → length l < 1 → Bad ≡ flow_of l
 unfolding is_flow
-flow-none l h = rw (lt-leb 1 (length l) h)
+flow_none l h = rw (lt-leb 1 (length l) h)
 
-pub flow-long : (l : List ℕ) → 7 < length l → Bad ≡ flow_of l
+pub flow_long : (l : List ℕ) → 7 < length l → Bad ≡ flow_of l
 unfolding is_flow
-flow-long l h = rw (le-leb 1 (length l) (omega arith), lt-leb (length l) 7 h)
+flow_long l h = rw (le-leb 1 (length l) (omega arith), lt-leb (length l) 7 h)
 
 pub read_none : (l : List ℕ) → 1 ≤ length l → length l ≤ 7 → Read l 0 0
 read_none l h k = record { within = omega arith; short = k; long = h; digits = refl; value = refl; small = omega arith }

@@ -2,16 +2,15 @@
 use mathlib.Core.Path.{◌≡◌, refl, sym, ap, ◌∙◌}
 use mathlib.Core.Bool.{Bool, true, false}
 use mathlib.Core.List.{List, [], ◌∷◌, ◌++◌, append_assoc}
-use Prim.Native.Nat.{ℕ, ◌+◌, ◌-◌, ◌≤◌, ◌<◌}
+use Prim.Native.Nat.{ℕ, ◌+◌, ◌≤◌, ◌<◌}
 use native.Mathlib.Omega.{arith}
 use native.Mathlib.Nat.{zero-add}
 use borrow.Author.Tests.{lt-ltb, le-ltb}
 use lib.ListN.{length, take, drop, length-drop, drop_of_length-le}
-use lib.Seq.{drop-drop, take_all}
+use lib.Seq.{drop-drop}
 use Rattle.model.specs.Lists.{choose}
 use Rattle.model.specs.Walls.{read_header}
 use Rattle.model.specs.Calls.{increment}
-use Rattle.bytes.specs.Bytes.{index_of}
 use Rattle.answer.specs.declared.Answer.{Answer}
 use Rattle.answer.specs.Answers.{outcome_of}
 use Rattle.texts.specs.Texts.{answer_line, total_line, bad_line}
@@ -19,7 +18,7 @@ use Rattle.texts.specs.Writing.{Room, Wrote}
 use Rattle.texts.proofs.Texts.{room-first, room_next, and_then}
 use Rattle.lines.specs.declared.read.Flow.TheVariants.{Number, Bad}
 use Rattle.lines.specs.Transcript.{lines_of, is_flow, value_of, flow_of, answers, words_of, bad_input, transcript, words_after}
-use Rattle.lines.proofs.Found.{lines_cut}
+use Rattle.lines.proofs.Found.{line_end, lines_cut}
 
 -- ---- one line
 
@@ -32,7 +31,7 @@ some : (b : Bool) (v y : ℕ) → Number y ≡ choose b (Number v) Bad → (b �
 some true v y e = (refl, cc)
 some false v y e = let z : ◌≡◌ {A = ℕ} 0 1 = cc in absurd (omega arith)
 
-module _ (s : List ℕ) (n : ℕ) (h : 0 < length s) (e : n ≡ index_of 10 s) (line : ℕ) (ws : List ℕ) where
+module _ (s : List ℕ) (n : ℕ) (h : 0 < length s) (e : n ≡ line_end s) (line : ℕ) (ws : List ℕ) where
   cut : lines_of s ≡ take n s ∷ lines_of (drop (n + 1) s)
   cut = rw e (lines_cut s h)
 
@@ -66,9 +65,6 @@ pub record Done (input ws₀ out₀ ws out : List ℕ) (at line end : ℕ) : Typ
 pub done_none : (input ws out : List ℕ) → Done input ws out ws out 0 1 0
 done_none input ws out = record { said = []; wrote = record { bytes = refl; ends = refl }; text = refl; words = refl; counted = omega arith }
 
-pub rest-is : (input : List ℕ) (at : ℕ) → take (length input - at) (drop at input) ≡ drop at input
-rest-is input at = take_all (length input - at) (drop at input) (simp length-drop (omega arith))
-
 module _ (input ws₀ out₀ ws out : List ℕ) (at line end : ℕ) (d : Done input ws₀ out₀ ws out at line end) (room : Room out₀ 0 (answers 1 (lines_of input) ws₀)) where
   left : Room out end (answers line (lines_of (drop at input)) ws)
   left = room_next out₀ 0 d.said (answers line (lines_of (drop at input)) ws) (rw d.text at room) d.wrote
@@ -96,7 +92,7 @@ module _ (input ws₀ out₀ ws out : List ℕ) (at line end : ℕ) (d : Done in
 
   -- ---- a line of n bytes
 
-  module _ (h : at < length input) (n : ℕ) (e : n ≡ index_of 10 (drop at input)) where
+  module _ (h : at < length input) (n : ℕ) (e : n ≡ line_end (drop at input)) where
     some_left : 0 < length (drop at input)
     some_left = simp length-drop (omega arith)
 

@@ -1,13 +1,14 @@
 ghost use Rattle.std.specs.Prelude.{◌≡◌};
 ghost use Rattle.lines.specs.Transcript.{flow_of};
 
-#[derive(Clone, Copy)]
+#[derive(Drop)]
 pub enum Flow {
     Number(u64),
     Bad,
 }
 
 // The flow number in a line, which is 1 to 7 digits.
+#[tactic(auto, using(crate::proofs::Found::flow_none, crate::proofs::Found::flow_long))]
 pub fn flow_in(line: &[u8]) -> Flow
     ensures { result ≡ flow_of line.now }
 {
@@ -18,9 +19,7 @@ pub fn flow_in(line: &[u8]) -> Flow
         return Flow::Bad;
     }
     let mut value: u64 = 0;
-    let mut i = 0;
-    while i < line.len() {
-        let b = line[i];
+    for &b in line {
         if b < b'0' {
             return Flow::Bad;
         }
@@ -28,7 +27,6 @@ pub fn flow_in(line: &[u8]) -> Flow
             return Flow::Bad;
         }
         value = value * 10 + wide(b - b'0');
-        i += 1;
     }
     Flow::Number(value)
 }
@@ -36,5 +34,5 @@ pub fn flow_in(line: &[u8]) -> Flow
 fn wide(b: u8) -> u64
     ensures { result ≡ b }
 {
-    b as u64
+    u64::from(b)
 }

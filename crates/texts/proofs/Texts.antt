@@ -1,19 +1,18 @@
 -- Texts written one after another, where there is room for all of them.
-use mathlib.Core.Path.{◌≡◌, ap₂, ◌∙◌}
-use mathlib.Core.List.{List, ◌++◌, append-nil}
-use Prim.Native.Nat.{ℕ, ◌-◌, ◌≤◌}
-use native.Mathlib.Omega.{arith}
-use lib.ListN.{length, take, drop, length-append, length-drop, drop_of_length-le}
-use lib.Seq.{take_all, take-length, drop-drop}
+use borrow.Rule.Slice.PartMut.{put_mid}
+use Rattle.std.proofs.Common.{◌≡◌, List, ◌++◌, ℕ, ◌+◌, ◌-◌, length, refl, ap, ap₂, ◌∙◌, arith, length-append}
+use Rattle.std.proofs.Math.Seq.{take-length}
+use Rattle.std.proofs.lemmas.Slice.{put_mid-paste}
 use Rattle.model.specs.Lists.{splice}
-use Rattle.model.proofs.Splices.{splice_on, length-splice}
+use Rattle.model.proofs.Splices.{splice_copy, splice_on, length-splice}
 use Rattle.texts.specs.Writing.{Room, Wrote}
 
--- a text copied over the bytes x from a place on
-pub copied : (o : List ℕ) (at : ℕ) (s : List ℕ) {x : List ℕ} → x ≡ take (length s) s ++ drop (length s) (take (length o - at) (drop at o)) → take at o ++ (x ++ drop (length o - at) (drop at o)) ≡ splice o at s
-copied o at s e =
-    let h : length (drop at o) ≤ length o - at = simp length-drop (omega arith) in
-    rw (e, take-length s, take_all (length o - at) (drop at o) h, drop_of_length-le (drop at o) h, append-nil, drop-drop (length s) at o)
+-- a text copied over as many bytes from a place on
+pub pasted : (o : List ℕ) (at : ℕ) (s : List ℕ) {x : List ℕ} → x ≡ s → put_mid at (at + length s - at) o x ≡ splice o at s
+pasted o at s {x} e =
+    put_mid-paste at (at + length s - at) o x s (length s) e (omega arith) refl
+    ∙ splice_copy o at s (length s) (omega arith)
+    ∙ ap (λ t. splice o at t) (take-length s)
 
 pub same_length : {o s p : List ℕ} {at n : ℕ} → Room o at s → Wrote o at s p n → length p ≡ length o
 same_length {o} {s} {at = at} h w = rw w.bytes (length-splice o at s h)

@@ -13,7 +13,9 @@ pub fn text(out: &mut [u8], at: usize, s: &[u8]) -> usize
     requires { Room out.old at s.now }
     ensures { Wrote out.old at s.now out.new result }
 {
-    at + bytes::copy(s, &mut out[at..])
+    let next = at + s.len();
+    out[at..next].copy_from_slice(s);
+    next
 }
 
 fn number(out: &mut [u8], at: usize, n: u64) -> usize
