@@ -1,7 +1,7 @@
 ghost use Rattle.std.specs.Prelude.{◌≡◌};
 ghost use Rattle.lines.specs.Transcript.{flow_of};
 
-#[derive(Drop)]
+#[derive(Clone, Copy)]
 pub enum Flow {
     Number(u64),
     Bad,
