@@ -1,5 +1,5 @@
 -- Room, level by level.
-use mathlib.Core.Path.{◌≡◌, refl, sym, ap, ◌∙◌}
+use mathlib.Core.Path.{◌≡◌, refl, sym, ap, ◌∙◌, subst}
 use mathlib.Core.Bool.{Bool, true, false}
 use mathlib.Core.List.{List}
 use Prim.Native.Nat.{ℕ, zero, suc, ◌+◌, ◌-◌, ◌/◌, ◌%◌, ◌^◌, ◌≤◌, ◌<◌}
@@ -53,18 +53,19 @@ pub record Rooming (n g₀ e₀ w₀ m₀ v₀ left g e w m v : ℕ) : Type 0 wh
   pub some : 0 < left
   pub weight : ℕ
   pub ahead : Ahead left e w weight
+  pub few : 1 < left → e % 256 < 64
   pub passed : ℕ
   pub same : (ws : List ℕ) (at : ℕ) → room_by left ws (at + passed) g e w m v ≡ room_by n ws at g₀ e₀ w₀ m₀ v₀
 
 pub rooming : (n g e w m v : ℕ) → 1 ≤ n → Ahead n e w 0 → Rooming n g e w m v n g e w m v
-rooming n g e w m v h a = record { some = h; weight = 0; ahead = a; passed = 0; same = λ ws at. ap (λ k. room_by n ws k g e w m v) (add-zero at) }
+rooming n g e w m v h a = record { some = h; weight = 0; ahead = a; few = λ l. (ahead_on n e w 0 l a).3; passed = 0; same = λ ws at. ap (λ k. room_by n ws k g e w m v) (add-zero at) }
 
 module _ {n g₀ e₀ w₀ m₀ v₀ left g e w m v : ℕ} (k : Rooming n g₀ e₀ w₀ m₀ v₀ left g e w m v) where
   pub narrow : w % 256 ≤ 16
   narrow = (ahead_last left e w k.weight k.some k.ahead).1
 
   pub marked : 1 < left → e % 256 < 64
-  marked h = (ahead_on left e w k.weight h k.ahead).3
+  marked = k.few
 
   pub room-full : e % 256 ≤ ones m → (ws : List ℕ) (at : ℕ) → false ≡ room_by n ws at g₀ e₀ w₀ m₀ v₀
   room-full h ws at = full ws (at + k.passed) g e w m v left k.some h ∙ k.same ws at
@@ -81,8 +82,14 @@ module _ {n g₀ e₀ w₀ m₀ v₀ left g e w m v : ℕ} (k : Rooming n g₀ e
     some = omega arith;
     weight = k.weight + w % 256;
     ahead = (ahead_on left e w k.weight h k.ahead).4;
+    few = λ l. (ahead_on (left - 1) (e / 256) (w / 256) (k.weight + w % 256) l (ahead_on left e w k.weight h k.ahead).4).3;
     passed = k.passed + 1;
     same = λ ws at.
         ap (λ i. room_by (left - 1) ws i (g / 2 ^ (e % 256)) (e / 256) (w / 256) (g % 2 ^ (e % 256)) (v / 2 ^ (w % 256))) (sym (add_assoc at k.passed 1))
         ∙ sym (on ws (at + k.passed) g e w m v left h l f) ∙ k.same ws at;
   }
+
+  -- the marks of the next level are what p cuts off, a power of 2 that the code found
+  pub room_to : (p : ℕ) → p ≡ 2 ^ (e % 256) → 1 < left → ones m < e % 256 → (v / 2 ^ (w % 256) ≡ 0 → ⊥)
+      → Rooming n g₀ e₀ w₀ m₀ v₀ (left - 1) (g / 2 ^ (e % 256)) (e / 256) (w / 256) (g % p) (v / 2 ^ (w % 256))
+  room_to p q h l f = subst (λ x. Rooming n g₀ e₀ w₀ m₀ v₀ (left - 1) (g / 2 ^ (e % 256)) (e / 256) (w / 256) (g % x) (v / 2 ^ (w % 256))) (sym q) (room_on h l f)

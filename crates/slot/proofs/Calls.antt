@@ -10,7 +10,7 @@ use Rattle.model.proofs.Tools.{and_tests}
 use Rattle.model.proofs.Slots.{spread_lt}
 use Rattle.layout.proofs.Tests.{passed}
 
--- known, valid and within are what the code found of b, m and y
+-- known, valid and within are what the code found of b, m and y, and r is what it answers
 module _ (b m y : ℕ) (known valid within : Bool) (says : known ≡ known_bits b) (holds : valid ≡ valid_spread b m) (tells : within ≡ ltb y (2 ^ b)) where
   pub refused_3 : not known ≡ true → record { number = 3; value = 0 } ≡ slot_call b m y
   unfolding slot_call

@@ -1,5 +1,6 @@
-use mathlib.Core.Path.{sym, ap, ◌∙◌, subst}
-use mathlib.Core.Bool.{not}
+use borrow.Author.Rules.{rules}
+use Rattle.fresh.proofs.Sized.{refused_15, refused_6}
+use mathlib.Core.Path.{ap, ◌∙◌}
 use mathlib.Core.List.{List}
 use Prim.Native.Nat.{ℕ}
 use lib.Dec.{T, eqb, eqb→eq}
@@ -8,11 +9,10 @@ use Rattle.model.specs.Slots.{valid_spread}
 use Rattle.model.specs.Walls.{limit_fits, full_fits, wall_size}
 use Rattle.model.proofs.Slots.{spread-fits}
 use Rattle.model.proofs.Headers.{eq-eqb}
-use Rattle.model.proofs.Steps.{eqb-false}
 use Rattle.answer.proofs.Said.{said}
 use Rattle.layout.specs.Views.{header_of}
 use Rattle.layout.proofs.Tests.{passed, failed}
-use Rattle.fresh.proofs.Starting.{full_most, sized_4, sized_5, sized_15, sized_6, sized_0}
+use Rattle.fresh.proofs.Starting.{full_most, sized_4, sized_5, sized_0}
 use Rattle.std.proofs.lemmas.Bool.{not_from_false, not_from_true}
 use Rattle.fresh.proofs.raise_sized.Goals as goal
 
@@ -34,25 +34,12 @@ size-requires c =
     let full_passed : T (full_fits (header_of c.args.v)) = passed c.full_fits.result (full_fits (header_of c.args.v)) c.full_fits.ensures (not_from_true _ c.if-not-full_fits.false) in
     (c.requires, full_most (header_of c.args.v) full_passed)
 
+-- No step is named: with the tests in another order the facts that a refusal asks for are not there.
 pub returns-then-not-valid : goal.returns-then-not-valid
-returns-then-not-valid c =
-    let limit_passed : T (limit_fits (header_of c.args.v)) = passed c.limit_fits.result (limit_fits (header_of c.args.v)) c.limit_fits.ensures (not_from_true _ c.if-not-limit_fits.false) in
-    let full_passed : T (full_fits (header_of c.args.v)) = passed c.full_fits.result (full_fits (header_of c.args.v)) c.full_fits.ensures (not_from_true _ c.if-not-full_fits.false) in
-    let a = c.args in
-    said c.refused-then-not-valid.result 15 0 a.words.now c.refused-then-not-valid.ensures
-    ∙ sized_15 (header_of a.v) a.words.now limit_passed full_passed (failed c.valid-valid.result (valid_spread a.v.bits a.v.spread) c.valid-valid.ensures (not_from_false _ c.if-not-valid.true))
+returns-then-not-valid c = search (rules, refused_15)
 
 pub returns-then-not-exact : goal.returns-then-not-exact
-returns-then-not-exact c =
-    let limit_passed : T (limit_fits (header_of c.args.v)) = passed c.limit_fits.result (limit_fits (header_of c.args.v)) c.limit_fits.ensures (not_from_true _ c.if-not-limit_fits.false) in
-    let full_passed : T (full_fits (header_of c.args.v)) = passed c.full_fits.result (full_fits (header_of c.args.v)) c.full_fits.ensures (not_from_true _ c.if-not-full_fits.false) in
-    let spread_passed : T (valid_spread c.args.v.bits c.args.v.spread) = let v = c.args.v in
-    passed c.valid-valid.result (valid_spread v.bits v.spread) c.valid-valid.ensures (not_from_true _ c.if-not-valid.false) in
-    let a = c.args in
-    let n = length a.words.now in
-    said c.refused-then-not-exact.result 6 0 a.words.now c.refused-then-not-exact.ensures
-    ∙ sized_6 (header_of a.v) a.words.now limit_passed full_passed spread_passed
-    (subst (λ b. T (not b)) (sym (eqb-false n (wall_size (header_of a.v)) (λ e. c.if-not-exact.true (e ∙ sym c.size.ensures)))) tt)
+returns-then-not-exact c = search (rules, refused_6)
 
 pub write-requires : goal.write-requires
 write-requires c =
