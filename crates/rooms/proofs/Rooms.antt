@@ -1,5 +1,5 @@
 -- Room, level by level.
-use mathlib.Core.Path.{◌≡◌, refl, sym, ap, ◌∙◌, subst}
+use mathlib.Core.Path.{◌≡◌, refl, sym, ap, ◌∙◌}
 use mathlib.Core.Bool.{Bool, true, false}
 use mathlib.Core.List.{List}
 use Prim.Native.Nat.{ℕ, zero, suc, ◌+◌, ◌-◌, ◌/◌, ◌%◌, ◌^◌, ◌≤◌, ◌<◌}
@@ -64,9 +64,6 @@ module _ {n g₀ e₀ w₀ m₀ v₀ left g e w m v : ℕ} (k : Rooming n g₀ e
   pub narrow : w % 256 ≤ 16
   narrow = (ahead_last left e w k.weight k.some k.ahead).1
 
-  pub marked : 1 < left → e % 256 < 64
-  marked = k.few
-
   pub room-full : e % 256 ≤ ones m → (ws : List ℕ) (at : ℕ) → false ≡ room_by n ws at g₀ e₀ w₀ m₀ v₀
   room-full h ws at = full ws (at + k.passed) g e w m v left k.some h ∙ k.same ws at
 
@@ -76,9 +73,10 @@ module _ {n g₀ e₀ w₀ m₀ v₀ left g e w m v : ℕ} (k : Rooming n g₀ e
   pub room-last : left ≡ 1 → ones m < e % 256 → (ws : List ℕ) (at : ℕ) → eqb (v / 2 ^ (w % 256)) 0 ≡ room_by n ws at g₀ e₀ w₀ m₀ v₀
   room-last h l ws at = last ws (at + k.passed) g e w m v left h l ∙ k.same ws at
 
-  pub room_on : 1 < left → ones m < e % 256 → (v / 2 ^ (w % 256) ≡ 0 → ⊥)
-      → Rooming n g₀ e₀ w₀ m₀ v₀ (left - 1) (g / 2 ^ (e % 256)) (e / 256) (w / 256) (g % 2 ^ (e % 256)) (v / 2 ^ (w % 256))
-  room_on h l f = record {
+  -- the marks of the next level are what p cuts off, a power of 2 that the code found
+  pub room_on : (p : ℕ) → p ≡ 2 ^ (e % 256) → 1 < left → ones m < e % 256 → (v / 2 ^ (w % 256) ≡ 0 → ⊥)
+      → Rooming n g₀ e₀ w₀ m₀ v₀ (left - 1) (g / 2 ^ (e % 256)) (e / 256) (w / 256) (g % p) (v / 2 ^ (w % 256))
+  room_on p q h l f = rw q record {
     some = omega arith;
     weight = k.weight + w % 256;
     ahead = (ahead_on left e w k.weight h k.ahead).4;
@@ -88,8 +86,3 @@ module _ {n g₀ e₀ w₀ m₀ v₀ left g e w m v : ℕ} (k : Rooming n g₀ e
         ap (λ i. room_by (left - 1) ws i (g / 2 ^ (e % 256)) (e / 256) (w / 256) (g % 2 ^ (e % 256)) (v / 2 ^ (w % 256))) (sym (add_assoc at k.passed 1))
         ∙ sym (on ws (at + k.passed) g e w m v left h l f) ∙ k.same ws at;
   }
-
-  -- the marks of the next level are what p cuts off, a power of 2 that the code found
-  pub room_to : (p : ℕ) → p ≡ 2 ^ (e % 256) → 1 < left → ones m < e % 256 → (v / 2 ^ (w % 256) ≡ 0 → ⊥)
-      → Rooming n g₀ e₀ w₀ m₀ v₀ (left - 1) (g / 2 ^ (e % 256)) (e / 256) (w / 256) (g % p) (v / 2 ^ (w % 256))
-  room_to p q h l f = subst (λ x. Rooming n g₀ e₀ w₀ m₀ v₀ (left - 1) (g / 2 ^ (e % 256)) (e / 256) (w / 256) (g % x) (v / 2 ^ (w % 256))) (sym q) (room_on h l f)

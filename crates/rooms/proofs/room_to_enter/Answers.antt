@@ -1,6 +1,6 @@
 use borrow.Author.Rules.{rules}
 use native.Mathlib.Omega.{arith}
-use Rattle.rooms.proofs.Rooms.{rooming, narrow, marked, room-full, room_fits, room-last, room_to}
+use Rattle.rooms.proofs.Rooms.{rooming, narrow, room-full, room_fits, room-last, room_on}
 use Rattle.rooms.proofs.room_to_enter.Goals as goal
 
 pub loop-left-init : goal.loop-left-init
@@ -15,11 +15,8 @@ overflow_shr-v c = omega (arith, narrow c.loop-left.invariant)
 pub returns-then-v-eq0 : goal.returns-then-v-eq0
 returns-then-v-eq0 c = room_fits c.loop-left.invariant c.loop-left-test.true (rw (← c.count.ensures.0) c.if-k-count.false) c.if-v-eq0.true
 
-pub overflow_shr-marks : goal.overflow_shr-marks
-overflow_shr-marks c = marked c.loop-left.invariant c.loop-left-test.true
-
 pub loop-left-preserved : goal.loop-left-preserved
-loop-left-preserved c = room_to c.loop-left.invariant _ (search rules) c.loop-left-test.true (rw (← c.count.ensures.0) c.if-k-count.false) c.if-v-eq0.false
+loop-left-preserved c = room_on c.loop-left.invariant _ (search rules) c.loop-left-test.true (rw (← c.count.ensures.0) c.if-k-count.false) c.if-v-eq0.false
 
 pub returns-then-entries-count : goal.returns-then-entries-count
 returns-then-entries-count c = room-full c.loop-left.invariant (rw (← c.count-2.ensures.0) c.if-entries-count.true)
