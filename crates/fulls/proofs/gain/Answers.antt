@@ -6,9 +6,9 @@ use Rattle.fulls.proofs.gain.Goals as goal
 pub returns-then-full-own : goal.returns-then-full-own
 returns-then-full-own c =
     let a = c.args in
-    moved-low (own_in a.width a.uppers a.e a.ws a.words.now a.at) a.words.now a.f a.place c.requires.6 (λ z. omega (arith, z, c.requires.8)) c.own_count-own.result c.own_count-own.ensures (omega (arith, c.if-full-own.true))
+    moved-low (own_in a.width a.uppers a.e a.ws a.words.now a.at) a.words.now a.f a.place c.requires.6 (λ z. omega (arith, z, c.requires.8)) c.own_count-own.result c.own_count-own.ensures (omega arith)
 
 pub returns : goal.returns
 returns c =
     let a = c.args in
-    moved_gains (own_in a.width a.uppers a.e a.ws a.words.now a.at) a.words.now a.f a.place c.requires.6 (λ z. omega (arith, z, c.requires.8)) c.own_count-own.result c.own_count-own.ensures (omega (arith, c.if-full-own.false))
+    moved_gains (own_in a.width a.uppers a.e a.ws a.words.now a.at) a.words.now a.f a.place c.requires.6 (λ z. omega (arith, z, c.requires.8)) c.own_count-own.result c.own_count-own.ensures (omega arith)

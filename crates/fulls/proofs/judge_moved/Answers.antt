@@ -30,7 +30,7 @@ returns-then-moved-eq0 c =
 pub returns-then-zero_places-moved-lt64 : goal.returns-then-zero_places-moved-lt64
 returns-then-zero_places-moved-lt64 c =
     let a = c.args in
-    let l : c.zero_places.result + c.count-moved.result < 64 = omega (arith, c.if-zero_places-moved-lt64.true) in
+    let l : c.zero_places.result + c.count-moved.result < 64 = omega arith in
     few_zeros (own_in a.width a.uppers a.e a.ws a.words.now a.at) (full_at a.words.now a.f) _ (length-own a.width (rows_by a.uppers a.e a.ws) (bucket_in a.width a.uppers a.e a.ws a.words.now a.at)) (subst (λ (z : ℕ). z + rank (full_at a.words.now a.f).moved 64 < 64) c.zero_places.ensures.0 (subst (λ (r : ℕ). c.zero_places.result + r < 64) (c.count-moved.ensures.0 ∙ flags a.words.now a.f (c.type_inv.words a.f).fits) l))
 
 pub loop-m-init : goal.loop-m-init
@@ -73,13 +73,13 @@ loop-m-preserved c =
     let l = c.loop-m in
     let a = c.args in
     subst (λ (p : ℕ). Going (own_in a.width a.uppers a.e a.ws a.words.now a.at) a.words.now a.f a.total (l.m - p) (l.left - c.in-Sound.more)) (sym c.pow2-m.ensures.0)
-    (one_behind (own_in a.width a.uppers a.e a.ws a.words.now a.at) a.words.now a.f a.total (length-own a.width (rows_by a.uppers a.e a.ws) (bucket_in a.width a.uppers a.e a.ws a.words.now a.at)) l.m l.left (count_trailing_zeros 64 l.m) l.invariant (low (own_in a.width a.uppers a.e a.ws a.words.now a.at) a.words.now a.f a.total c.loop-m.m c.loop-m.left c.loop-m.invariant c.loop-m-test.true (c.type_inv.words a.f).fits) c.in-Sound.more (sym c.gain.ensures ∙ c.in-Sound.is) (omega (arith, c.if-left-more.false)))
+    (one_behind (own_in a.width a.uppers a.e a.ws a.words.now a.at) a.words.now a.f a.total (length-own a.width (rows_by a.uppers a.e a.ws) (bucket_in a.width a.uppers a.e a.ws a.words.now a.at)) l.m l.left (count_trailing_zeros 64 l.m) l.invariant (low (own_in a.width a.uppers a.e a.ws a.words.now a.at) a.words.now a.f a.total c.loop-m.m c.loop-m.left c.loop-m.invariant c.loop-m-test.true (c.type_inv.words a.f).fits) c.in-Sound.more (sym c.gain.ensures ∙ c.in-Sound.is) (omega arith))
 
 pub returns-then-left-more : goal.returns-then-left-more
 returns-then-left-more c =
     let l = c.loop-m in
     let a = c.args in
-    over (own_in a.width a.uppers a.e a.ws a.words.now a.at) a.words.now a.f a.total (length-own a.width (rows_by a.uppers a.e a.ws) (bucket_in a.width a.uppers a.e a.ws a.words.now a.at)) l.m l.left (count_trailing_zeros 64 l.m) l.invariant (low (own_in a.width a.uppers a.e a.ws a.words.now a.at) a.words.now a.f a.total c.loop-m.m c.loop-m.left c.loop-m.invariant c.loop-m-test.true (c.type_inv.words a.f).fits) c.in-Sound.more (sym c.gain.ensures ∙ c.in-Sound.is) (omega (arith, c.if-left-more.true))
+    over (own_in a.width a.uppers a.e a.ws a.words.now a.at) a.words.now a.f a.total (length-own a.width (rows_by a.uppers a.e a.ws) (bucket_in a.width a.uppers a.e a.ws a.words.now a.at)) l.m l.left (count_trailing_zeros 64 l.m) l.invariant (low (own_in a.width a.uppers a.e a.ws a.words.now a.at) a.words.now a.f a.total c.loop-m.m c.loop-m.left c.loop-m.invariant c.loop-m-test.true (c.type_inv.words a.f).fits) c.in-Sound.more (sym c.gain.ensures ∙ c.in-Sound.is) (omega arith)
 
 -- all of them are behind
 ended : (c : goal.After-loop-m)
@@ -87,8 +87,8 @@ ended : (c : goal.After-loop-m)
 ended c =
     let a = c.args in
     let e : c.loop-m.m ≡ 0 = omega (arith, c.loop-m-test.false) in
-    let h : 1 ≤ c.count-moved.result = omega (arith, c.if-moved-eq0.false) in
-    let g : 64 ≤ c.zero_places.result + c.count-moved.result = omega (arith, c.if-zero_places-moved-lt64.false) in
+    let h : 1 ≤ c.count-moved.result = omega arith in
+    let g : 64 ≤ c.zero_places.result + c.count-moved.result = omega arith in
     at-end (own_in a.width a.uppers a.e a.ws a.words.now a.at) a.words.now a.f a.total (length-own a.width (rows_by a.uppers a.e a.ws) (bucket_in a.width a.uppers a.e a.ws a.words.now a.at)) c.loop-m.m c.loop-m.left e (subst (λ (r : ℕ). 1 ≤ r) (c.count-moved.ensures.0 ∙ flags a.words.now a.f (c.type_inv.words a.f).fits) h)
     (subst (λ (r : ℕ). 64 ≤ r + rank (full_at a.words.now a.f).moved 64) c.zero_places.ensures.0 (subst (λ (r : ℕ). 64 ≤ c.zero_places.result + r) (c.count-moved.ensures.0 ∙ flags a.words.now a.f (c.type_inv.words a.f).fits) g)) c.loop-m.invariant
 

@@ -1,4 +1,4 @@
-use mathlib.Core.Path.{sym, ◌∙◌}
+use mathlib.Core.Path.{◌∙◌}
 use Prim.Native.Nat.{◌+◌, ◌%◌, ◌^◌}
 use native.Mathlib.Omega.{arith}
 use lib.ListN.{length, get_or}
@@ -15,5 +15,5 @@ pub returns-then-bit-eq0 : goal.returns-then-bit-eq0
 returns-then-bit-eq0 c =
     let a = c.args in
     c.entry_at.ensures
-    ∙ count_stop a.words.now a.at a.place (get_or a.words.now (a.at + a.width + 1 + a.uppers) 0 % 2 ^ 40) a.width a.uppers a.e a.ws (λ i. (c.type_inv.words i).fits) c.requires.6 (sym c.bit.ensures ∙ c.if-bit-eq0.true)
+    ∙ count_stop a.words.now a.at a.place (get_or a.words.now (a.at + a.width + 1 + a.uppers) 0 % 2 ^ 40) a.width a.uppers a.e a.ws (λ i. (c.type_inv.words i).fits) c.requires.6 (omega arith)
     ∙ own-here a.width a.uppers a.e a.ws a.words.now a.at (omega (arith, c.requires.5)) a.place c.requires.6

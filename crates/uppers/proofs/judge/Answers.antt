@@ -20,7 +20,7 @@ pub returns-then-m-eq0 : goal.returns-then-m-eq0
 returns-then-m-eq0 c =
     let l = c.loop-left in
     let a = c.args in
-    c.judge_empty.ensures ∙ judge_none l.left a.words.now l.at l.marks l.entries l.widths (ones l.m) l.weight l.sum l.invariant.some (ones_none l.m c.if-m-eq0.true) (omega (arith, c.if-marks-gt0.false)) ∙ l.invariant.same
+    c.judge_empty.ensures ∙ judge_none l.left a.words.now l.at l.marks l.entries l.widths (ones l.m) l.weight l.sum l.invariant.some (ones_none l.m c.if-m-eq0.true) (omega arith) ∙ l.invariant.same
 
 pub returns-then-k-n : goal.returns-then-k-n
 returns-then-k-n c =
@@ -38,13 +38,13 @@ pub pow2-requires-in-loop-left : goal.pow2-requires-in-loop-left
 pow2-requires-in-loop-left c =
     let l = c.loop-left in
     let a = c.args in
-    omega (arith, (here l.invariant c.loop-left-test.true).3, c.if-k-n.false)
+    omega (arith, (here l.invariant c.loop-left-test.true).3)
 
 pub returns-then-pow2-m : goal.returns-then-pow2-m
 returns-then-pow2-m c =
     let l = c.loop-left in
     let a = c.args in
-    judge_marks a.words.now l.at l.marks l.entries l.widths (ones l.m) l.weight l.sum l.left c.loop-left-test.true (rw (← c.count-n.ensures.0) (omega (arith, c.if-k-n.false)))
+    judge_marks a.words.now l.at l.marks l.entries l.widths (ones l.m) l.weight l.sum l.left c.loop-left-test.true (rw (← c.count-n.ensures.0) (omega arith))
     (rw (c.pow2-in-loop-left.ensures.0, c.count-n.ensures.0, c.pow2.ensures.0) at c.if-pow2-m.true) ∙ l.invariant.same
 
 pub judge_level-requires : goal.judge_level-requires
@@ -58,7 +58,7 @@ pub returns-in_default : goal.returns-in_default
 returns-in_default c =
     let l = c.loop-left in
     let a = c.args in
-    judge_stop a.words.now l.at l.marks l.entries l.widths (ones l.m) l.weight l.sum l.left c.loop-left-test.true (rw (← c.count-n.ensures.0) (omega (arith, c.if-k-n.false)))
+    judge_stop a.words.now l.at l.marks l.entries l.widths (ones l.m) l.weight l.sum l.left c.loop-left-test.true (rw (← c.count-n.ensures.0) (omega arith))
     (rw (c.count-n.ensures.0, c.pow2.ensures.0) at (sym c.judge_level.ensures ∙ c.in_default.is)) ∙ l.invariant.same
 
 pub pow2-requires-in-loop-left-2 : goal.pow2-requires-in-loop-left-2
@@ -71,7 +71,7 @@ told : (c : goal.After-pow2-in-loop-left-2) → let l = c.loop-left in let a = c
 told c = rw (c.count-n.ensures.0, c.pow2.ensures.0) at (sym c.judge_level.ensures ∙ c.in-Sound.is)
 
 few : (c : goal.After-pow2-in-loop-left-2) → let l = c.loop-left in let a = c.args in (ones l.m ≤ l.entries % 256) × (ones l.m ≤ 64)
-few c = rw (← c.count-n.ensures.0) (omega (arith, c.if-k-n.false), c.count-n.ensures.1)
+few c = rw (← c.count-n.ensures.0) (omega arith, c.count-n.ensures.1)
 
 next : (c : goal.After-pow2-in-loop-left-2) → let l = c.loop-left in let a = c.args in
     Walk a.words.now (judged a.uppers a.words.now a.first a.g a.e a.ws (ones a.m1) a.width 0) (a.first + a.uppers)

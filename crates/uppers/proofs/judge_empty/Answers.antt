@@ -16,7 +16,7 @@ pub loop-left-preserved : goal.loop-left-preserved
 loop-left-preserved c =
     let l = c.loop-left in
     let a = c.args in
-    (omega (arith, l.invariant.0, c.loop-left-test.true), l.invariant.1 ∙ zero-next l.left a.words.now l.at c.loop-left-test.true (omega (arith, c.if-words-at-gt0.false)))
+    (omega (arith, l.invariant.0, c.loop-left-test.true), l.invariant.1 ∙ zero-next l.left a.words.now l.at c.loop-left-test.true (omega arith))
 
 pub returns : goal.returns
 returns c =

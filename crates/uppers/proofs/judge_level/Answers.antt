@@ -44,4 +44,4 @@ pub overflow_sub-result-2 : goal.overflow_sub-result-2
 overflow_sub-result-2 c = taken_le c.loop-i.invariant c.pow2-p.result c.pow2-p.ensures.0
 
 pub returns : goal.returns
-returns c = level-done c.loop-i.invariant c.pow2-p.result c.pow2-p.ensures.0 (omega (arith, c.loop-i.invariant.within, c.loop-i-test.false)) (omega (arith, c.if-x-gt0.false)) c.requires.3
+returns c = level-done c.loop-i.invariant c.pow2-p.result c.pow2-p.ensures.0 (omega (arith, c.loop-i.invariant.within, c.loop-i-test.false)) (omega arith) c.requires.3
