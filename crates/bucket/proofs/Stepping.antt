@@ -4,12 +4,13 @@ use mathlib.Core.Bool.{Bool, true, false, not}
 use mathlib.Core.Logic.{◌↔◌}
 use mathlib.Core.List.{List, [], ◌∷◌}
 use Prim.Native.Nat.{ℕ, zero, suc, ◌/◌, ◌%◌, ◌^◌, ◌≤◌, ◌<◌}
-use native.Mathlib.Nat.{le_of_eq, zero-add, div-eq_of_lt, div-one}
+use native.Mathlib.Nat.{le_of_eq, zero-add, div-eq_of_lt, div-one, mod-lt}
 use native.Mathlib.Omega.{arith}
 use lib.Dec.{T, leb}
 use lib.Arith.{lt→nleb}
 use lib.ListN.{length, get_or, set, take, length-set}
 use lib.Count.{ones}
+use lib.Pow.{pow_pos}
 use Rattle.model.specs.Lists.{sum, by_mark}
 use Rattle.model.specs.Packed.{pack, bit, rank, replaced}
 use Rattle.model.specs.Shapes.{Row, row, all_rows, counter_bits, mark_widths}
@@ -18,6 +19,7 @@ use Rattle.model.specs.Walls as model
 use Rattle.model.specs.Sound.{levels_of, own_counts}
 use Rattle.model.specs.Calls.{from_levels, holding}
 use Rattle.model.proofs.Lists.{Below}
+use Rattle.model.proofs.Packing.{first_fits}
 use Rattle.model.proofs.Tools.{bool_eq}
 use Rattle.model.proofs.Coding.{Fits, Sound}
 use Rattle.model.proofs.Crowding.{T_true, T_false, bucket-fits}
@@ -32,12 +34,12 @@ use Rattle.bucket.specs.declared.Bucket.{Bucket}
 use Rattle.bucket.specs.Views.{as_bucket, own_of}
 use Rattle.growth.specs.Levels.{levels_from, levels_in}
 use Rattle.growth.specs.Grow.{Grown, Stands, Comes, Rises}
-use Rattle.bucket.specs.Raise.{Raises, RaisesIn, Stays, room_for}
+use Rattle.bucket.specs.Raise.{Put, Raises, RaisesIn, Stays, room_for}
 use Rattle.growth.proofs.Ahead.{at-start}
 use Rattle.bucket.proofs.Views.{levels_view}
 use Rattle.growth.proofs.Growing.{mark_pos, rank-count}
 use Rattle.growth.proofs.Raising.{mark_set, rank_lt}
-use Rattle.bucket.proofs.Stored.{from_own}
+use Rattle.bucket.proofs.Stored.{from_own, take-replaced}
 
 -- ---- said of the counts
 
@@ -126,6 +128,12 @@ uppers_of s b = levels_up s b.upper
 
 abbrev pub first_of : Shape → Bucket → ℕ
 first_of s b = pack 64 (take s.width b.first)
+
+-- p is b with a new part of place a in level 1
+pub first-put : (s : Shape) (b p : Bucket) (a v : ℕ) → a < 64 → Below (2 ^ 64) b.first → Below (2 ^ 64) p.first → Put b s.width a (v % 2 ^ s.width) p
+    → first_of s p ≡ replaced s.width (first_of s b) a (v % 2 ^ s.width)
+first-put s b p a v h below below-p put =
+    take-replaced b.first p.first s.width s.width a (v % 2 ^ s.width) below below-p (first_fits s.width a h) (mod-lt v (pow_pos s.width)) put.first
 
 abbrev own_levels : Shape → Bucket → List Level
 own_levels s b = level (first_of s b) b.marks ∷ uppers_of s b

@@ -1,106 +1,104 @@
-use Rattle.bucket.proofs.Stepping.{first_of, held_low, held_on, comes, rises, entered-levels, raised-levels}
-use Rattle.bucket.proofs.Stored.{take-replaced}
+use Rattle.bucket.specs.declared.Bucket.{Bucket}
+use Rattle.bucket.specs.Raise.{Put, Raises, room_for}
+use Rattle.bucket.specs.Views.{as_bucket, own_of}
+use Rattle.bucket.proofs.Stepping.{first-put, held_low, held_on, comes, rises, entered-levels, raised-levels}
 use Rattle.growth.proofs.Raising.{mark_set}
-use Rattle.growth.specs.Grow.{Comes, Rises}
+use Rattle.growth.specs.declared.Upper.{Upper}
+use Rattle.growth.specs.Grow.{Comes, Rises, Grown}
 use Rattle.growth.specs.Levels.{levels_in}
 use Rattle.rooms.specs.Growth.{entering, raising}
-use Rattle.shapes.proofs.Shapes.{facts}
+use Rattle.shapes.specs.declared.Shape.{Shape}
 use Rattle.shapes.specs.Shapes.{rows_in}
 use Rattle.cells.proofs.Crossing.{below_of}
 use Rattle.model.proofs.Lists.{Below}
-use Rattle.model.proofs.Packing.{first_fits}
+use Rattle.model.specs.Calls.{holding}
 use Rattle.model.specs.Packed.{bit, rank, replaced}
-use Rattle.model.specs.Lists.{by_mark}
+use lib.Dec.{T}
+use lib.ListN.{length, get_or, set}
 use mir.Syntax.{w64}
 use mir.Val.{Fits}
-use lib.Pow.{pow_pos}
-use lib.ListN.{length, get_or}
 use native.Mathlib.Omega.{arith}
-use native.Mathlib.Nat.{mod-lt}
-use Prim.Native.Nat.{ℕ, ◌/◌, ◌%◌, ◌^◌}
-use mathlib.Core.Path.{◌≡◌, sym, ap, ◌∙◌, subst}
+use Prim.Native.Nat.{ℕ, ◌<◌, ◌/◌, ◌%◌, ◌^◌}
+use mathlib.Core.Path.{◌≡◌, sym, ap, ◌∙◌}
 use borrow.Author.Rules.{rules}
 use Rattle.bucket.proofs.Bucket.raise.Goals as goal
 
-four : (c : goal.Start) → length c.args.self.upper.words ≡ 4
-four c = search rules
+-- p is b with the new part of place a in level 1, q what goes above it, i the rank of the place and g its mark
+module _ (s : Shape) (b p : Bucket) (four : length b.upper.words ≡ 4) (a v : ℕ) (k : Raises s b a v)
+    (put : Put b s.width a (v % 2 ^ s.width) p) where
+  abbrev q : ℕ
+  q = v / 2 ^ s.width
 
-below : (c : goal.Start) → Below (2 ^ 64) c.args.self.first
-below c = below_of (2 ^ 64) c.args.self.first (λ i. (each i).fits)
-  where
-    each : (i : ℕ) → Fits w64 (get_or c.args.self.first i 0)
-    each i = search rules
+  module _ (z : 0 < q) (g i : ℕ) (eg : g ≡ bit p.marks a) (ei : i ≡ rank p.marks a) where
+    unmarked : g ≡ 0 → bit b.marks a ≡ 0
+    unmarked h = ap (λ m. bit m a) (sym put.marks) ∙ sym eg ∙ h
 
--- the words of level 1 with the new part
-stored : (c : goal.After-put-self) → (Below (2 ^ 64) c.put-self.result.first) × (length c.put-self.result.first ≡ 16) × (length c.put-self.result.upper.words ≡ 4)
-stored c = (below_of (2 ^ 64) c.put-self.result.first (λ i. (each i).fits), search rules, search rules)
-  where
-    each : (i : ℕ) → Fits w64 (get_or c.put-self.result.first i 0)
-    each i = search rules
+    marked : (g ≡ 0 → ⊥) → bit b.marks a ≡ 0 → ⊥
+    marked f e = f (eg ∙ ap (λ m. bit m a) put.marks ∙ e)
 
-first : (c : goal.After-put-self)
-    → let s = c.before.before in
-    first_of s.args.shape c.put-self.result ≡ replaced s.args.shape.width (first_of s.args.shape s.args.self) s.args.place (s.args.value % 2 ^ s.args.shape.width)
-first c =
-    let s = c.before.before in
-    let w : ℕ = s.args.shape.width in
-    take-replaced s.args.self.first c.put-self.result.first w w s.args.place (s.args.value % 2 ^ w) (below s) (stored c).0
-    (first_fits w s.args.place s.requires.0.place) (mod-lt s.args.value (pow_pos w)) (rw c.pow2.ensures.0 at c.put-self.ensures.first)
+    comes-put : T (room_for s b a v) → g ≡ 0 → Comes s s.uppers 0 0 p.upper i q
+    comes-put t h = rw (ei, put.marks) (comes s b four a v k p.upper put.upper z t (unmarked h))
 
-grown-four : (c : goal.After-grow-self) → length c.grow-self.result.words ≡ 4
-grown-four c = search rules
+    rises-put : T (room_for s b a v) → (g ≡ 0 → ⊥) → Rises s s.uppers 0 0 p.upper i q
+    rises-put t f = rw (ei, put.marks) (rises s b four a v k p.upper put.upper z t (marked f))
 
-risen-four : (c : goal.After-rise-self) → length c.rise-self.result.words ≡ 4
-risen-four c = search rules
+    module _ (fits : (i : ℕ) → Fits w64 (get_or b.first i 0)) (fits-p : (i : ℕ) → Fits w64 (get_or p.first i 0))
+        (long : length p.first ≡ 16) (u : Upper) (four-u : length u.words ≡ 4) where
+      below : Below (2 ^ 64) b.first
+      below = below_of _ _ (λ i. (fits i).fits)
 
-pub pow2-requires : goal.pow2-requires
-pow2-requires c = omega (arith, (facts c.args.shape c.requires.0.fit.valid).first)
+      below-p : Below (2 ^ 64) p.first
+      below-p = below_of _ _ (λ i. (fits-p i).fits)
 
-pub put-self-requires : goal.put-self-requires
-put-self-requires c =
-    let t = (facts c.args.shape c.requires.0.fit.valid).first in
-    (c.requires.0.place, t.0, t.1, rw c.pow2.ensures.0 (mod-lt c.args.value (pow_pos c.args.shape.width)))
+      held_in : g ≡ 0 → (m : ℕ) → m ≡ replaced 1 p.marks a 1
+          → Grown s s.uppers 0 0 p.upper (entering (rows_in s) (levels_in s.uppers s p.upper 0 0) i q) u
+          → as_bucket s (record { first = p.first; marks = m; upper = u }) ≡ holding s.width (rows_in s) (set (own_of s b) a v)
+      held_in h m em grown =
+          held_on s b four a v k (record { first = p.first; marks = m; upper = u }) (first-put s b p a v k.place below below-p put)
+          below-p long four-u z p.upper put.upper _ grown
+          (rw (em, put.marks, unmarked h))
+          (rw (ei, put.marks) (entered-levels s b four a v k p.upper put.upper (unmarked h)))
 
-pub overflow_shr-high : goal.overflow_shr-high
-overflow_shr-high c = omega (arith, (facts c.args.shape c.requires.0.fit.valid).first)
+      held_up : (g ≡ 0 → ⊥) → Grown s s.uppers 0 0 p.upper (raising (rows_in s) (levels_in s.uppers s p.upper 0 0) i q) u
+          → as_bucket s (record { first = p.first; marks = p.marks; upper = u }) ≡ holding s.width (rows_in s) (set (own_of s b) a v)
+      held_up f grown =
+          held_on s b four a v k (record { first = p.first; marks = p.marks; upper = u }) (first-put s b p a v k.place below below-p put)
+          below-p long four-u z p.upper put.upper _ grown
+          (rw (put.marks, mark_set b.marks a (marked f)))
+          (rw (ei, put.marks) (raised-levels s b four a v k p.upper put.upper (marked f)))
 
 pub returns-then-high-eq0 : goal.returns-then-high-eq0
 returns-then-high-eq0 c =
-    let s = c.before.before.before in
+    let a = c.args in
     let p = c.put-self in
-    let t = stored c.before in
-    held_low s.args.shape s.args.self (four s) s.args.place s.args.value s.requires.0 p.result (first c.before) t.0 t.1 t.2 p.ensures.marks p.ensures.upper c.if-high-eq0.true
+    let put = rw c.pow2.ensures.0 at p.ensures in
+    let below : Below (2 ^ 64) p.result.first = below_of _ _ (λ i. search rules) in
+    held_low a.shape a.self (search rules) a.place a.value c.requires.0 p.result
+    (first-put a.shape a.self p.result a.place a.value c.requires.0.place (below_of _ _ (λ i. search rules)) below put)
+    below (search rules) (search rules) p.ensures.marks p.ensures.upper c.if-high-eq0.true
 
 pub grow-self-requires : goal.grow-self-requires
 grow-self-requires c =
-    let s = c.before.before.before.before.before.before.before.before in
-    subst (λ i. Comes s.args.shape s.args.shape.uppers 0 0 c.put-self.result.upper i (s.args.value / 2 ^ s.args.shape.width)) (sym (c.rank-next.ensures.0 ∙ ap (λ m. rank m s.args.place) c.put-self.ensures.marks))
-    (comes s.args.shape s.args.self (four s) s.args.place s.args.value s.requires.0 c.put-self.result.upper c.put-self.ensures.upper (omega (arith, c.if-high-eq0.false)) s.requires.1 (ap (λ m. bit m s.args.place) (sym c.put-self.ensures.marks) ∙ sym c.bit.ensures ∙ c.if-bit-eq0.true))
+    let a = c.args in
+    comes-put a.shape a.self c.put-self.result (search rules) a.place a.value c.requires.0 (rw c.pow2.ensures.0 at c.put-self.ensures)
+    (omega (arith, c.if-high-eq0.false)) _ _ c.bit.ensures c.rank-next.ensures.0 c.requires.1 c.if-bit-eq0.true
 
 pub returns-then-bit-eq0 : goal.returns-then-bit-eq0
 returns-then-bit-eq0 c =
-    let s = c.before.before.before.before.before.before.before.before.before in
-    let p = c.put-self in
-    let t = stored c.before.before.before.before.before.before.before in
-    held_on s.args.shape s.args.self (four s) s.args.place s.args.value s.requires.0 (record { first = p.result.first; marks = c.set_mark.result; upper = c.grow-self.result }) (first c.before.before.before.before.before.before.before) t.0 t.1 (grown-four c) (omega (arith, c.if-high-eq0.false)) c.put-self.result.upper c.put-self.ensures.upper
-    (entering (rows_in s.args.shape) (levels_in s.args.shape.uppers s.args.shape p.result.upper 0 0) c.rank-next.result (s.args.value / 2 ^ s.args.shape.width)) c.grow-self.ensures
-    (c.set_mark.ensures ∙ ap (λ m. replaced 1 m s.args.place 1) p.ensures.marks ∙ ap (λ n. by_mark n (replaced 1 s.args.self.marks s.args.place 1) s.args.self.marks) (sym (ap (λ m. bit m s.args.place) (sym c.put-self.ensures.marks) ∙ sym c.bit.ensures ∙ c.if-bit-eq0.true)))
-    (ap (λ i. entering (rows_in s.args.shape) (levels_in s.args.shape.uppers s.args.shape p.result.upper 0 0) i (s.args.value / 2 ^ s.args.shape.width)) (c.rank-next.ensures.0 ∙ ap (λ m. rank m s.args.place) c.put-self.ensures.marks)
-    ∙ entered-levels s.args.shape s.args.self (four s) s.args.place s.args.value s.requires.0 c.put-self.result.upper c.put-self.ensures.upper (ap (λ m. bit m s.args.place) (sym c.put-self.ensures.marks) ∙ sym c.bit.ensures ∙ c.if-bit-eq0.true))
+    let a = c.args in
+    held_in a.shape a.self c.put-self.result (search rules) a.place a.value c.requires.0 (rw c.pow2.ensures.0 at c.put-self.ensures)
+    (omega (arith, c.if-high-eq0.false)) _ _ c.bit.ensures c.rank-next.ensures.0
+    (λ i. search rules) (λ i. search rules) (search rules) _ (search rules) c.if-bit-eq0.true _ c.set_mark.ensures c.grow-self.ensures
 
 pub rise-self-requires : goal.rise-self-requires
 rise-self-requires c =
-    let s = c.before.before.before.before.before.before.before in
-    subst (λ i. Rises s.args.shape s.args.shape.uppers 0 0 c.put-self.result.upper i (s.args.value / 2 ^ s.args.shape.width)) (sym (c.rank-next.ensures.0 ∙ ap (λ m. rank m s.args.place) c.put-self.ensures.marks))
-    (rises s.args.shape s.args.self (four s) s.args.place s.args.value s.requires.0 c.put-self.result.upper c.put-self.ensures.upper (omega (arith, c.if-high-eq0.false)) s.requires.1 (λ e. c.if-bit-eq0.false (c.bit.ensures ∙ ap (λ m. bit m s.args.place) c.put-self.ensures.marks ∙ e)))
+    let a = c.args in
+    rises-put a.shape a.self c.put-self.result (search rules) a.place a.value c.requires.0 (rw c.pow2.ensures.0 at c.put-self.ensures)
+    (omega (arith, c.if-high-eq0.false)) _ _ c.bit.ensures c.rank-next.ensures.0 c.requires.1 c.if-bit-eq0.false
 
 pub returns : goal.returns
 returns c =
-    let s = c.before.before.before.before.before.before.before.before in
-    let p = c.put-self in
-    let t = stored c.before.before.before.before.before.before in
-    held_on s.args.shape s.args.self (four s) s.args.place s.args.value s.requires.0 (record { first = p.result.first; marks = p.result.marks; upper = c.rise-self.result }) (first c.before.before.before.before.before.before) t.0 t.1 (risen-four c) (omega (arith, c.if-high-eq0.false)) c.put-self.result.upper c.put-self.ensures.upper
-    (raising (rows_in s.args.shape) (levels_in s.args.shape.uppers s.args.shape p.result.upper 0 0) c.rank-next.result (s.args.value / 2 ^ s.args.shape.width)) c.rise-self.ensures
-    (p.ensures.marks ∙ ap (λ n. by_mark n (replaced 1 s.args.self.marks s.args.place 1) s.args.self.marks) (sym (mark_set s.args.self.marks s.args.place (λ e. c.if-bit-eq0.false (c.bit.ensures ∙ ap (λ m. bit m s.args.place) c.put-self.ensures.marks ∙ e)))))
-    (ap (λ i. raising (rows_in s.args.shape) (levels_in s.args.shape.uppers s.args.shape p.result.upper 0 0) i (s.args.value / 2 ^ s.args.shape.width)) (c.rank-next.ensures.0 ∙ ap (λ m. rank m s.args.place) c.put-self.ensures.marks)
-    ∙ raised-levels s.args.shape s.args.self (four s) s.args.place s.args.value s.requires.0 c.put-self.result.upper c.put-self.ensures.upper (λ e. c.if-bit-eq0.false (c.bit.ensures ∙ ap (λ m. bit m s.args.place) c.put-self.ensures.marks ∙ e)))
+    let a = c.args in
+    held_up a.shape a.self c.put-self.result (search rules) a.place a.value c.requires.0 (rw c.pow2.ensures.0 at c.put-self.ensures)
+    (omega (arith, c.if-high-eq0.false)) _ _ c.bit.ensures c.rank-next.ensures.0
+    (λ i. search rules) (λ i. search rules) (search rules) _ (search rules) c.if-bit-eq0.false c.rise-self.ensures
