@@ -1,9 +1,9 @@
 -- One more of a flow: its refusals, and the step where none of 7 to 10 is met.
 use mathlib.Core.Logic.{◌≢◌}
-use mathlib.Core.Path.{◌≡◌, sym, ap, ◌∙◌, subst}
+use mathlib.Core.Path.{◌≡◌, sym, ap, ap₂, ◌∙◌, subst}
 use mathlib.Core.Bool.{not, ◌&&◌}
 use mathlib.Core.List.{List, [], ◌∷◌, ◌++◌}
-use Prim.Native.Nat.{ℕ, ◌+◌, ◌≤◌, ◌<◌}
+use Prim.Native.Nat.{ℕ, ◌+◌, ◌^◌, ◌≤◌, ◌<◌}
 use native.Mathlib.Nat.{le_trans}
 use native.Mathlib.Omega.{arith}
 use lib.Dec.{T, eqb, leb, not_T, eqb→eq}
@@ -18,10 +18,17 @@ use Rattle.model.proofs.Tools.{to_not-not}
 use Rattle.model.proofs.Buckets.{bucket_facts}
 use Rattle.model.proofs.Refusals.{first-met, first-skip, answer_no, refused_as}
 use Rattle.model.proofs.Eleven.{eleven_drops}
+use Rattle.answer.specs.declared.Answer.{Answer}
+use Rattle.answer.specs.Answers.{reply_of, outcome_of}
+use Rattle.answer.proofs.Said.{said}
 use Rattle.layout.specs.declared.Wall as layout
 use Rattle.layout.specs.Views.{header_of}
+use Rattle.uppers.specs.declared.Judged.{Judged}
+use Rattle.uppers.specs.declared.Judged.TheVariants as judged
+use Rattle.uppers.specs.Judge.{verdict}
+use Rattle.uppers.proofs.Verdicts.{said-sound, said-not}
 use Rattle.header.specs.Headers.{Open}
-use Rattle.header.proofs.Places.{open_header, open_limits}
+use Rattle.header.proofs.Places.{count_end_most, open_header, open_limits}
 use Rattle.steps.specs.Step.{step_in}
 use Rattle.increment.specs.OneMore.{one_more}
 
@@ -71,6 +78,45 @@ module _ (ws : List ℕ) (i a : ℕ) where
         let m : get_or (counts_at (parse ws) i) a 0 ≤ v.total = subst (λ (h : Header). get_or (counts_at (parse ws) i) a 0 ≤ h.total) (sym (open_header ws v o)) (counts_most (parse ws) i a t) in
         let n : v.total ≢ v.limit = z in
         omega (arith, l.within, l.limit-high)
+
+pub total-small : (ws : List ℕ) (v : layout.Wall) → Open ws v → v.total < 2 ^ 47
+total-small ws v o = let l = open_limits ws v o in omega (arith, l.within, l.limit-high, count_end_most ws v o)
+
+-- ---- by what the code found: r judges the bucket, and m is what stands beside a sound one
+
+module _ (ws : List ℕ) (i a : ℕ) (r : Judged) (m : ℕ) (judges : r ≡ verdict (sound_at (parse ws) i) m) where
+  pub unsound_9 : (s : Answer) → reply_of s ≡ record { number = 9; value = 0 } → r ≡ judged.Unsound → outcome_of s ws ≡ one_more ws i a
+  unsound_9 s e z = said s 9 0 ws e ∙ at-nine ws i a (subst (λ b. T (not b)) (sym (said-not (sound_at (parse ws) i) m (sym judges ∙ z))) tt)
+
+  module _ (x : ℕ) (says : r ≡ judged.Sound x) where
+    pub told-sound : T (sound_at (parse ws) i)
+    told-sound = subst T (sym (said-sound (sound_at (parse ws) i) m (sym judges ∙ says)).0) tt
+
+    pub told-value : m ≡ x
+    told-value = (said-sound (sound_at (parse ws) i) m (sym judges ∙ says)).1
+
+    module _ (v : layout.Wall) (o : Open ws v) where
+      -- the limit of the code is that of the wall
+      pub total_10 : (s : Answer) → reply_of s ≡ record { number = 10; value = 0 } → v.total ≡ v.limit → outcome_of s ws ≡ one_more ws i a
+      total_10 s e z =
+          let h = open_header ws v o in
+          said s 10 0 ws e ∙ at-ten ws i a told-sound (sym (ap (λ (h : Header). h.total) h) ∙ z ∙ ap (λ (h : Header). h.limit) h)
+
+      pub limit_10 : (s : Answer) → reply_of s ≡ record { number = 10; value = 0 } → v.limit ≡ v.total → outcome_of s ws ≡ one_more ws i a
+      limit_10 s e z = total_10 s e (sym z)
+
+      module _ (below : v.total ≡ v.limit → ⊥) (c : ℕ) (counts : c ≡ get_or (counts_at (parse ws) i) a 0) where
+        pub next-fits : c + 1 < count_end (header_of v)
+        next-fits = omega (arith, one_more_fits ws i a told-sound v o below)
+
+        pub next-small : c + 1 < 2 ^ 64
+        next-small = omega (arith, next-fits, count_end_most ws v o)
+
+        pub stepped : step_in ws i a (c + 1) (v.total + 1) ≡ one_more ws i a
+        stepped =
+            let h = open_header ws v o in
+            ap₂ (λ m t. step_in ws i a (m + 1) (t + 1)) counts (ap (λ (h : Header). h.total) h)
+            ∙ at-step ws i a told-sound (λ q. below (ap (λ (h : Header). h.total) h ∙ q ∙ sym (ap (λ (h : Header). h.limit) h)))
 
 -- ---- of a flow
 

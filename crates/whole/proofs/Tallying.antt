@@ -1,6 +1,7 @@
 -- One bucket more is passed, and all of them.
 use mathlib.Core.Logic.{◌≢◌}
 use mathlib.Core.Path.{◌≡◌, refl, sym, ap, ap₂, ◌∙◌, subst}
+use mathlib.Core.Bool.{not}
 use mathlib.Core.List.{List}
 use Prim.Native.Nat.{ℕ, zero, suc, ◌+◌, ◌-◌, ◌*◌, ◌/◌, ◌%◌, ◌^◌, ◌≤◌, ◌<◌}
 use native.Mathlib.Nat.{mul-le-mul_right, suc-mul, zero-div}
@@ -20,9 +21,10 @@ use Rattle.model.proofs.OwnSteps.{number_lt}
 use Rattle.model.proofs.Steps.{holds_none, holds_one}
 use Rattle.layout.specs.declared.Wall as layout
 use Rattle.layout.specs.Views.{header_of}
+use Rattle.uppers.specs.declared.Judged.{Judged}
 use Rattle.uppers.specs.declared.Judged.TheVariants as judged
 use Rattle.uppers.specs.Judge.{verdict}
-use Rattle.uppers.proofs.Verdicts.{said-sound}
+use Rattle.uppers.proofs.Verdicts.{said-not, said-sound}
 use Rattle.whole.specs.declared.Tally.{Tally}
 use Rattle.header.specs.Headers.{Open}
 use Rattle.whole.specs.Check.{Noted, Passed, Seen, holders_to, seen_at}
@@ -64,30 +66,61 @@ module _ (v : Wall) (i : ℕ) where
   unfolding counts_at
   most s = (facts s).most
 
-  pub number_in : T (sound_at v i) → flag (bucket_at v i) ≡ 1 → full_number (bucket_at v i) < v.header.used
+  number_in : T (sound_at v i) → flag (bucket_at v i) ≡ 1 → full_number (bucket_at v i) < v.header.used
   number_in s e = number_lt (facts s) (omega arith)
 
   next : (q : ℕ) → holders_to v (i + 1) q ≡ holders_to v i q + holds_number q (bucket_at v i)
   unfolding holders_to
   next q = sum-last i (λ k. holds_number q (bucket_at v k))
 
-module _ (v : Wall) (i : ℕ) (t : Tally) (p : Passed v i t) (s : T (sound_at v i)) (c : ℕ) (e : c ≡ sum (counts_at v i)) where
+-- the flag is one bit
+flag_one : (b : Bucket) → (flag b ≡ 0 → ⊥) → flag b ≡ 1
+flag_one b f = go (flag b) (flag_le b) f
+  where
+    go : (m : ℕ) → m ≤ 1 → (m ≡ 0 → ⊥) → m ≡ 1
+    go zero l f = absurd (f refl)
+    go (suc zero) l f = refl
+    go (suc (suc m)) l f = absurd (omega arith)
+
+-- what the code found of it: the verdict r, which is sound with the sum c
+module _ (v : Wall) (i : ℕ) (r : Judged) (c : ℕ) (w : r ≡ verdict (sound_at v i) (sum (counts_at v i))) (is : r ≡ judged.Sound c) where
+  told-sound : T (sound_at v i)
+  told-sound = subst T (sym (said-sound (sound_at v i) (sum (counts_at v i)) (sym w ∙ is)).0) tt
+
+  told-sum : c ≡ sum (counts_at v i)
+  told-sum = sym (said-sound (sound_at v i) (sum (counts_at v i)) (sym w ∙ is)).1
+
+pub told-not : (v : Wall) (i : ℕ) (r : Judged) → r ≡ verdict (sound_at v i) (sum (counts_at v i)) → r ≡ judged.Unsound → T (not (sound_at v i))
+told-not v i r w h = subst (λ b. T (not b)) (sym (said-not (sound_at v i) (sum (counts_at v i)) (sym w ∙ h))) tt
+
+-- and its packed word n
+module _ (v : Wall) (i n : ℕ) (k : n ≡ (bucket_at v i).packed) where
+  clear : n / 2 ^ 40 % 2 ≡ 0 → flag (bucket_at v i) ≡ 0
+  clear f = ap (λ x. x / 2 ^ 40 % 2) (sym k) ∙ f
+
+  flagged : (n / 2 ^ 40 % 2 ≡ 0 → ⊥) → flag (bucket_at v i) ≡ 1
+  flagged f = flag_one (bucket_at v i) (λ z. f (ap (λ x. x / 2 ^ 40 % 2) k ∙ z))
+
+module _ (v : Wall) (i : ℕ) (t : Tally) (p : Passed v i t) (r : Judged) (c : ℕ) (w : r ≡ verdict (sound_at v i) (sum (counts_at v i))) (is : r ≡ judged.Sound c) where
+  s : T (sound_at v i)
+  s = told-sound v i r c w is
+
   pub sum_fits : i < 65536 → v.header.total < 2 ^ 47 → t.sum + c < 2 ^ 64
   sum_fits l b =
       let a : sum (tabulate i (λ k. sum (counts_at v k))) ≤ i * v.header.total = sum-within i v.header.total (λ k. sum (counts_at v k)) (λ k l. most v k (p.sound k l)) in
       let d : suc i * v.header.total ≤ 65536 * v.header.total = mul-le-mul_right v.header.total l in
-      omega (arith, p.counts, most v i s, suc-mul i v.header.total)
+      omega (arith, p.counts, told-sum v i r c w is, most v i s, suc-mul i v.header.total)
 
   sounds : (k : ℕ) → k < i + 1 → T (sound_at v k)
   sounds k l = by_eq k i (λ q. subst (λ j. T (sound_at v j)) (sym q) s) (λ z. p.sound k (omega arith))
 
   adds : t.sum + c ≡ sum (tabulate (i + 1) (λ k. sum (counts_at v k)))
-  adds = ap₂ (λ a b. a + b) p.counts e ∙ sym (sum-last i (λ k. sum (counts_at v k)))
+  adds = ap₂ (λ a b. a + b) p.counts (told-sum v i r c w is) ∙ sym (sum-last i (λ k. sum (counts_at v k)))
 
   -- it has no flag
-  module _ (f : flag (bucket_at v i) ≡ 0) where
+  module _ (n : ℕ) (k : n ≡ (bucket_at v i).packed) (f : n / 2 ^ 40 % 2 ≡ 0) where
     same : (q : ℕ) → holders_to v (i + 1) q ≡ holders_to v i q
-    same q = omega (arith, next v i q, holds_none q (bucket_at v i) (λ h. absurd (omega arith)))
+    same q = let z = clear v i n k f in omega (arith, next v i q, holds_none q (bucket_at v i) (λ h. absurd (omega arith)))
 
     pub passed_plain : Passed v (i + 1) (record { sum = t.sum + c; flagged = t.flagged; again = t.again })
     passed_plain = record {
@@ -101,16 +134,22 @@ module _ (v : Wall) (i : ℕ) (t : Tally) (p : Passed v i t) (s : T (sound_at v 
     pub seen_plain : (seen : List ℕ) → Seen v i seen → Seen v (i + 1) seen
     seen_plain seen h = record { bitmap = h.bitmap; bits = λ q l. h.bits q l ∙ ap sign (sym (same q)) }
 
-  -- it holds the number n
-  module _ (n : ℕ) (f : flag (bucket_at v i) ≡ 1) (en : n ≡ full_number (bucket_at v i)) (seen : List ℕ) (h : Seen v i seen) where
+  -- it has one, and holds the number of the word m
+  module _ (m : ℕ) (k : m ≡ (bucket_at v i).packed) (f : m / 2 ^ 40 % 2 ≡ 0 → ⊥) (seen : List ℕ) (h : Seen v i seen) where
+    abbrev n : ℕ
+    n = m / 2 ^ 48
+
+    holds : n ≡ full_number (bucket_at v i)
+    holds = ap (λ x. x / 2 ^ 48) k
+
     low : n < v.header.used
-    low = omega (arith, number_in v i s f)
+    low = omega (arith, number_in v i s (flagged v i m k f), holds)
 
     more : holders_to v (i + 1) n ≡ holders_to v i n + 1
-    more = omega (arith, next v i n, holds_one n (bucket_at v i) (omega arith) (sym en))
+    more = let g = flagged v i m k f in omega (arith, next v i n, holds_one n (bucket_at v i) (omega arith) (sym holds))
 
     others : (q : ℕ) → q ≢ n → holders_to v (i + 1) q ≡ holders_to v i q
-    others q z = omega (arith, next v i q, holds_none q (bucket_at v i) (λ k d. z (sym d ∙ sym en)))
+    others q z = omega (arith, next v i q, holds_none q (bucket_at v i) (λ k d. z (sym d ∙ sym holds)))
 
     pub passed_flagged : (a : ℕ) → a ≡ seen_at seen n → Passed v (i + 1) (record { sum = t.sum + c; flagged = t.flagged + 1; again = t.again + a })
     passed_flagged a ea = record {
@@ -144,19 +183,10 @@ module _ (ws : List ℕ) (v : layout.Wall) (o : Open ws v) where
       let l = open_limits ws v o in
       subst (λ (h : Header). h.total < 2 ^ 47) (open_header ws v o) (omega (arith, l.within, l.limit-high, count_end_most ws v o))
 
--- bucket i was found sound, with the sum x
-module _ (v : Wall) (i x : ℕ) (e : verdict (sound_at v i) (sum (counts_at v i)) ≡ judged.Sound x) where
-  pub told-sound : T (sound_at v i)
-  told-sound = subst T (sym (said-sound (sound_at v i) (sum (counts_at v i)) e).0) tt
-
-  pub told-sum : x ≡ sum (counts_at v i)
-  told-sum = sym (said-sound (sound_at v i) (sum (counts_at v i)) e).1
-
--- the flag is one bit
-pub flag_one : (b : Bucket) → (flag b ≡ 0 → ⊥) → flag b ≡ 1
-flag_one b f = go (flag b) (flag_le b) f
-  where
-    go : (m : ℕ) → m ≤ 1 → (m ≡ 0 → ⊥) → m ≡ 1
-    go zero l f = absurd (f refl)
-    go (suc zero) l f = refl
-    go (suc (suc m)) l f = absurd (omega arith)
+  -- the number that a flagged bucket holds is one of a full-size bucket
+  pub number-few : (i n c : ℕ) (r : Judged) → r ≡ verdict (sound_at (parse ws) i) (sum (counts_at (parse ws) i)) → r ≡ judged.Sound c
+      → n ≡ (bucket_at (parse ws) i).packed → (n / 2 ^ 40 % 2 ≡ 0 → ⊥) → n / 2 ^ 48 < 4096
+  number-few i n c r w h k f =
+      let l = open_limits ws v o in
+      let m = number_in (parse ws) i (told-sound (parse ws) i r c w h) (flagged (parse ws) i n k f) in
+      omega (arith, k, m, ap (λ (h : Header). h.used) (open_header ws v o), l.spare_full, l.full_most)

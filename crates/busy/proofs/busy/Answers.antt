@@ -1,54 +1,74 @@
+use borrow.Author.Rules.{rules}
 use native.Mathlib.Omega.{arith}
 use mathlib.Core.Path.{◌≡◌, sym, ap, ap₂, ◌∙◌, subst}
-use Prim.Native.Nat.{◌*◌, ◌≤◌, ◌<◌}
+use mathlib.Core.List.{List}
+use Prim.Native.Nat.{ℕ, ◌*◌, ◌≤◌, ◌<◌}
 use lib.Dec.{lit<}
 use lib.ListN.{length}
+use Rattle.model.specs.Walls.{parse}
+use Rattle.model.specs.Sound.{count}
 use Rattle.model.specs.Calls.{Outcome, check}
+use Rattle.model.specs.BusyLists.{busy, busy_flows, written}
 use Rattle.model.proofs.BusyLists.{busy-refused, busy_short, busy-done}
+use Rattle.answer.specs.declared.Answer.{Answer}
+use Rattle.answer.specs.Answers.{reply_of, outcome_of, listing_of}
 use Rattle.answer.proofs.Said.{said-list}
-use Rattle.header.specs.Headers.{Open}
+use Rattle.layout.specs.declared.Wall.{Wall}
+use Rattle.header.specs.declared.Opened.{Opened}
+use Rattle.header.specs.declared.Opened.TheVariants as opened
+use Rattle.header.specs.Headers.{Open, opened_of}
 use Rattle.header.proofs.Opening.{is_open, not_opened}
 use Rattle.whole.proofs.Checking.{check_7}
 use Rattle.busy.proofs.busy.Goals as goal
 
+-- g is the header as the code opened it
+module _ (ws : List ℕ) (g : Opened) (opens : g ≡ opened_of ws) where
+  refused_7 : (floor : ℕ) (list : List ℕ) (r : Answer) → reply_of r ≡ record { number = 7; value = 0 } → g ≡ opened.Bad
+      → listing_of r ws list ≡ busy ws floor list
+  refused_7 floor list r e z =
+      said-list r 7 0 ws list e
+      ∙ busy-refused ws floor list 7 (lit< tt) (sym (ap (λ (o : Outcome). o.number) (check_7 ws (not_opened ws (sym z ∙ opens)))))
+
+  header : (v : Wall) → g ≡ opened.Good v → Open ws v
+  header v z = is_open ws v (sym z ∙ opens)
+
+-- k is what the check answered
+module _ (ws : List ℕ) (k : Answer) (checks : outcome_of k ws ≡ check ws) (floor : ℕ) (list : List ℕ) where
+  as_checked : (r : Answer) → reply_of r ≡ record { number = k.number; value = 0 } → 0 < k.number → listing_of r ws list ≡ busy ws floor list
+  as_checked r e h = said-list r k.number 0 ws list e ∙ busy-refused ws floor list k.number h (sym (ap (λ (o : Outcome). o.number) checks))
+
+  module _ (none : k.number ≤ 0) where
+    accepts : (check ws).number ≡ 0
+    accepts = sym (ap (λ (o : Outcome). o.number) checks) ∙ omega arith
+
+    -- and n the number of flows to list
+    module _ (n : ℕ) (lists : n ≡ length (busy_flows (parse ws) floor)) where
+      refused_14 : (r : Answer) → reply_of r ≡ record { number = 14; value = 0 } → length list < 2 * n → listing_of r ws list ≡ busy ws floor list
+      refused_14 r e h = said-list r 14 0 ws list e ∙ busy_short ws floor list accepts (subst (λ n. length list < 2 * n) lists h)
+
+      done : (us : List ℕ) → us ≡ written (count (parse ws)) (busy_flows (parse ws) floor) list → (r : Answer) → reply_of r ≡ record { number = 0; value = n }
+          → 2 * n ≤ length list → listing_of r ws us ≡ busy ws floor list
+      done us w r e h =
+          said-list r 0 n ws us e ∙ ap₂ (λ n us. record { number = 0; value = n; words = ws; list = us }) lists w
+          ∙ busy-done ws floor list accepts (subst (λ n. 2 * n ≤ length list) lists h)
+
+twice : (n m : ℕ) → n ≡ m → 2 * n ≡ 2 * m
+twice n m e = ap (λ n. 2 * n) e
+
 pub returns-in_default : goal.returns-in_default
-returns-in_default c =
-    let a = c.args in
-    let ws = a.words.now in
-    let z = not_opened ws (sym c.in_default.is ∙ c.open.ensures) in
-    said-list c.refused.result 7 0 ws a.list.now c.refused.ensures ∙ busy-refused ws a.floor a.list.now 7 (lit< tt) (sym (ap (λ (o : Outcome). o.number) (check_7 ws z)))
+returns-in_default c = search (rules, refused_7)
 
 pub returns-then-checked-gt0 : goal.returns-then-checked-gt0
-returns-then-checked-gt0 c =
-    let a = c.args in
-    let n = c.check-checked.result.number in
-    said-list c.refused-then-checked-gt0.result n 0 a.words.now a.list.now c.refused-then-checked-gt0.ensures
-    ∙ busy-refused a.words.now a.floor a.list.now n c.if-checked-gt0.true (sym (ap (λ (o : Outcome). o.number) c.check-checked.ensures))
+returns-then-checked-gt0 c = search (rules, as_checked)
 
 pub listed-k-requires : goal.listed-k-requires
-listed-k-requires c =
-    let opens : Open c.args.words.now c.in-Good.v = is_open c.args.words.now c.in-Good.v (sym c.in-Good.is ∙ c.open.ensures) in
-    let accepts : (check c.args.words.now).number ≡ 0 = sym (ap (λ (o : Outcome). o.number) c.check-checked.ensures) ∙ omega (arith, c.if-checked-gt0.false) in
-    (opens, accepts)
+listed-k-requires c = search (rules, header, accepts)
 
 pub returns-then-list-end : goal.returns-then-list-end
-returns-then-list-end c =
-    let accepts : (check c.args.words.now).number ≡ 0 = sym (ap (λ (o : Outcome). o.number) c.check-checked.ensures) ∙ omega (arith, c.if-checked-gt0.false) in
-    let a = c.args in
-    said-list c.refused-then-list-end.result 14 0 a.words.now a.list.now c.refused-then-list-end.ensures
-    ∙ busy_short a.words.now a.floor a.list.now accepts (subst (λ n. length a.list.now < 2 * n) c.listed-k.ensures.0 c.if-list-end.true)
+returns-then-list-end c = search (rules, refused_14)
 
 pub fill-requires : goal.fill-requires
-fill-requires c =
-    let opens : Open c.args.words.now c.in-Good.v = is_open c.args.words.now c.in-Good.v (sym c.in-Good.is ∙ c.open.ensures) in
-    let accepts : (check c.args.words.now).number ≡ 0 = sym (ap (λ (o : Outcome). o.number) c.check-checked.ensures) ∙ omega (arith, c.if-checked-gt0.false) in
-    let a = c.args in
-    (opens, accepts, ap (λ n. 2 * n) c.listed-k.ensures.0, c.if-list-end.false)
+fill-requires c = search (rules, header, accepts, twice)
 
 pub returns : goal.returns
-returns c =
-    let accepts : (check c.args.words.now).number ≡ 0 = sym (ap (λ (o : Outcome). o.number) c.check-checked.ensures) ∙ omega (arith, c.if-checked-gt0.false) in
-    let a = c.args in
-    said-list c.done.result 0 c.listed-k.result a.words.now c.fill.new.list c.done.ensures
-    ∙ ap₂ (λ n us. record { number = 0; value = n; words = a.words.now; list = us }) c.listed-k.ensures.0 c.fill.ensures
-    ∙ busy-done a.words.now a.floor a.list.now accepts (subst (λ n. 2 * n ≤ length a.list.now) c.listed-k.ensures.0 c.if-list-end.false)
+returns c = search (rules, done)

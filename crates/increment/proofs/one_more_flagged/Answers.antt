@@ -1,126 +1,96 @@
-use Rattle.steps.proofs.Writing.{ready, flag-here, number-used, full_inside, step-moved}
-use Rattle.increment.proofs.Raising.{at-nine, at-ten, at-step, one_more_fits}
-use Rattle.steps.specs.Step.{step_in}
-use Rattle.header.proofs.Places.{open_good, open_known, open_header, open_limits, open_spread, count_end_most}
-use Rattle.uppers.proofs.Verdicts.{said-sound, said-not}
-use Rattle.answer.proofs.Said.{said}
-use Rattle.layout.specs.Views.{header_of}
-use Rattle.model.specs.Sound.{bucket_at, counts_at, flag, full_number, sound_at}
-use Rattle.model.specs.Walls.{Header, buckets_in, bucket_length, parse}
-use Rattle.model.specs.Lists.{sum}
-use lib.Dec.{T}
+use borrow.Author.Rules.{rules}
 use native.Mathlib.Omega.{arith}
-use Prim.Native.Nat.{ℕ, ◌+◌, ◌*◌, ◌/◌, ◌^◌}
-use mathlib.Core.List.{List}
-use mathlib.Core.Bool.{not}
-use mathlib.Core.Path.{◌≡◌, sym, ap, ap₂, ◌∙◌, subst}
+use native.Mathlib.Nat.{le_trans}
+use mathlib.Core.Path.{◌≡◌, sym, ap, ◌∙◌}
+use mathlib.Core.List.{List, [], ◌∷◌}
+use Prim.Native.Nat.{ℕ, ◌+◌, ◌*◌, ◌/◌, ◌^◌, ◌≤◌, ◌<◌}
+use lib.ListN.{get_or, length, set}
+use Rattle.model.specs.Lists.{sum, splice}
+use Rattle.model.specs.Packed.{join_fields}
+use Rattle.model.specs.Walls.{buckets_in, bucket_length, full_fields, full_words, parse, word_at}
+use Rattle.model.specs.Calls.{move_in}
+use Rattle.moves.specs.Full.{full_at}
+use Rattle.model.specs.Sound.{bucket_at, counts_at, flag, sound_at}
+use Rattle.answer.specs.declared.Answer.{Answer}
+use Rattle.answer.specs.Answers.{reply_of, outcome_of}
+use Rattle.answer.proofs.Said.{said}
+use Rattle.layout.specs.declared.Wall.{Wall}
+use Rattle.layout.specs.Views.{header_of}
+use Rattle.uppers.specs.declared.Judged.{Judged}
+use Rattle.uppers.specs.declared.Judged.TheVariants as judged
+use Rattle.uppers.specs.Judge.{verdict}
+use Rattle.header.specs.Headers.{Open}
+use Rattle.header.proofs.Places.{full-within, open_good, open_known, open_limits, open_spread}
+use Rattle.steps.specs.Step.{Ready}
+use Rattle.steps.proofs.Writing.{ready, flag-here, number-used, step-moved}
+use Rattle.increment.specs.OneMore.{one_more}
+use Rattle.increment.proofs.Raising.{limit_10, next-fits, next-small, stepped, told-sound, total-small, unsound_9}
 use Rattle.increment.proofs.one_more_flagged.Goals as goal
 
+-- n is the packed word of bucket i, which j finds sound, m the count at place a, and there is room for one more
+module _ (ws : List ℕ) (v : Wall) (i a n : ℕ) (o : Open ws v) (here : i < buckets_in (header_of v)) (place : a < 64) (e : n ≡ (bucket_at (parse ws) i).packed)
+    (more : 0 < n / 2 ^ 40) (j : Judged) (judges : j ≡ verdict (sound_at (parse ws) i) (sum (counts_at (parse ws) i))) (x : ℕ) (says : j ≡ judged.Sound x)
+    (room : v.limit ≡ v.total → ⊥) (m : ℕ) (counts : m ≡ get_or (counts_at (parse ws) i) a 0) where
+  below : v.total ≡ v.limit → ⊥
+  below z = room (sym z)
+
+  fits : m + 1 < 2 ^ 64
+  fits = next-small ws i a j _ judges x says v o below m counts
+
+  goes : Ready ws v i a (m + 1)
+  goes = ready ws v i a m o (told-sound ws i a j _ judges x says) here place counts (omega (arith, next-fits ws i a j _ judges x says v o below m counts, counts))
+
+  flagged : flag (bucket_at (parse ws) i) ≡ 1
+  flagged = flag-here ws v i a (m + 1) goes n e more
+
+  used : n / 2 ^ 48 < v.used
+  used = omega (arith, ap (λ x. x / 2 ^ 48) e, number-used ws v i a (m + 1) goes flagged)
+
+  number-few : n / 2 ^ 48 < 4096
+  number-few = let l = open_limits ws v o in omega (arith, used, l.full_most, l.spare_full)
+
+  -- its full-size bucket stands at k
+  module _ (k : ℕ) (stands : k ≡ 4 + (buckets_in (header_of v) * bucket_length (header_of v) + n / 2 ^ 48 * 65)) where
+    inside : k + 65 ≤ length ws
+    inside = omega (arith, full-within ws v o (n / 2 ^ 48) (le_trans used (open_limits ws v o).spare_full))
+
+    done : word_at ws 0 < 2 ^ 64 → (us xs : List ℕ) → us ≡ splice ws k (full_words (move_in (full_at ws k) a (m + 1)))
+        → xs ≡ set (set us 2 (v.total + 1)) 3 (join_fields full_fields (v.full ∷ v.used ∷ v.spread ∷ []))
+        → (s : Answer) → reply_of s ≡ record { number = 0; value = m + 1 } → outcome_of s xs ≡ one_more ws i a
+    done low us xs moved totals s q =
+        said s 0 (m + 1) xs q ∙ ap (λ (x : List ℕ). record { number = 0; value = m + 1; words = x }) totals
+        ∙ step-moved ws v i a (m + 1) goes (v.total + 1) low us k flagged
+        (stands ∙ ap (λ x. 4 + (buckets_in (header_of v) * bucket_length (header_of v) + x / 2 ^ 48 * 65)) e) moved
+        ∙ stepped ws i a j _ judges x says v o below m counts
+
 pub returns-in_default : goal.returns-in_default
-returns-in_default c =
-    let ws = c.args.words.now in
-    let v = c.args.v in
-    let i = c.args.i in
-    let a = c.args.at in
-    let o = c.requires.0 in
-    said c.refused.result 9 0 ws c.refused.ensures
-    ∙ at-nine ws i a (subst (λ b. T (not b)) (sym (said-not (sound_at (parse ws) i) (sum (counts_at (parse ws) i)) (sym c.judge_flagged.ensures ∙ c.in_default.is))) tt)
+returns-in_default c = search (rules, unsound_9)
 
 pub returns-then-v : goal.returns-then-v
-returns-then-v c =
-    let ws = c.args.words.now in
-    let v = c.args.v in
-    let i = c.args.i in
-    let a = c.args.at in
-    let o = c.requires.0 in
-    let y : T (sound_at (parse ws) i) = subst T (sym (said-sound (sound_at (parse ws) i) (sum (counts_at (parse ws) i)) (sym c.judge_flagged.ensures ∙ c.in-Sound.is)).0) tt in
-    let e = open_header ws v o in
-    said c.refused-then-v.result 10 0 ws c.refused-then-v.ensures
-    ∙ at-ten ws i a y (sym (ap (λ (h : Header). h.total) e) ∙ sym c.if-v.true ∙ ap (λ (h : Header). h.limit) e)
+returns-then-v c = search (rules, limit_10)
 
 pub count_flagged-count-requires : goal.count_flagged-count-requires
-count_flagged-count-requires c =
-    let ws = c.args.words.now in
-    let v = c.args.v in
-    let i = c.args.i in
-    let a = c.args.at in
-    let o = c.requires.0 in
-    let y : T (sound_at (parse ws) i) = subst T (sym (said-sound (sound_at (parse ws) i) (sum (counts_at (parse ws) i)) (sym c.judge_flagged.ensures ∙ c.in-Sound.is)).0) tt in
-    (o, c.requires.1, c.requires.3, c.requires.4, y, c.requires.2)
+count_flagged-count-requires c = search (rules, told-sound)
 
 pub overflow_add-count : goal.overflow_add-count
-overflow_add-count c =
-    let ws = c.args.words.now in
-    let v = c.args.v in
-    let i = c.args.i in
-    let a = c.args.at in
-    let o = c.requires.0 in
-    let y : T (sound_at (parse ws) i) = subst T (sym (said-sound (sound_at (parse ws) i) (sum (counts_at (parse ws) i)) (sym c.judge_flagged.ensures ∙ c.in-Sound.is)).0) tt in
-    omega (arith, one_more_fits ws i a y v o (λ q. c.if-v.false (sym q)), c.count_flagged-count.ensures, count_end_most ws v o)
+overflow_add-count c = search (rules, fits)
 
 pub full_at-requires : goal.full_at-requires
 full_at-requires c =
-    let ws = c.args.words.now in
-    let v = c.args.v in
-    let i = c.args.i in
-    let a = c.args.at in
-    let o = c.requires.0 in
-    let y : T (sound_at (parse ws) i) = subst T (sym (said-sound (sound_at (parse ws) i) (sum (counts_at (parse ws) i)) (sym c.judge_flagged.ensures ∙ c.in-Sound.is)).0) tt in
-    let n = c.count_flagged-count.ensures in
-    let r = ready ws v i a c.count_flagged-count.result o y c.requires.1 c.requires.2 n (one_more_fits ws i a y v o (λ q. c.if-v.false (sym q))) in
-    let f : flag (bucket_at (parse ws) i) ≡ 1 = flag-here ws v i a (c.count_flagged-count.result + 1) r c.args.packed c.requires.3 c.requires.4 in
-    let p : c.args.packed / 2 ^ 48 ≡ full_number (bucket_at (parse ws) i) = ap (λ x. x / 2 ^ 48) c.requires.3 in
-    let l = open_limits ws v o in
-    (open_known ws v o, omega (arith, p, number-used ws v i a (c.count_flagged-count.result + 1) r f, l.full_most, l.spare_full))
+    let few : c.args.packed / 2 ^ 48 < 4096 = search (rules, number-few) in
+    (open_known _ _ c.requires.0, omega arith)
 
 pub move_in-requires : goal.move_in-requires
-move_in-requires c =
-    let ws = c.args.words.now in
-    let v = c.args.v in
-    let i = c.args.i in
-    let a = c.args.at in
-    let o = c.requires.0 in
-    let y : T (sound_at (parse ws) i) = subst T (sym (said-sound (sound_at (parse ws) i) (sum (counts_at (parse ws) i)) (sym c.judge_flagged.ensures ∙ c.in-Sound.is)).0) tt in
-    let n = c.count_flagged-count.ensures in
-    let r = ready ws v i a c.count_flagged-count.result o y c.requires.1 c.requires.2 n (one_more_fits ws i a y v o (λ q. c.if-v.false (sym q))) in
-    let f : flag (bucket_at (parse ws) i) ≡ 1 = flag-here ws v i a (c.count_flagged-count.result + 1) r c.args.packed c.requires.3 c.requires.4 in
-    let p : c.args.packed / 2 ^ 48 ≡ full_number (bucket_at (parse ws) i) = ap (λ x. x / 2 ^ 48) c.requires.3 in
-    (full_inside ws v i a (c.count_flagged-count.result + 1) r 0 (c.slice_known-1.given 0).fits c.full_at.result f (c.full_at.ensures ∙ ap (λ x. 4 + (buckets_in (header_of v) * bucket_length (header_of v) + x * 65)) p), c.requires.2)
+move_in-requires c = search (rules, inside)
 
 pub overflow_add-v : goal.overflow_add-v
-overflow_add-v c =
-    let ws = c.args.words.now in
-    let v = c.args.v in
-    let i = c.args.i in
-    let a = c.args.at in
-    let o = c.requires.0 in
-    let l = open_limits ws v o in
-    omega (arith, l.within, l.limit-high, count_end_most ws v o)
+overflow_add-v c = omega (arith, total-small _ _ c.requires.0)
 
 pub put_totals-requires : goal.put_totals-requires
 put_totals-requires c =
-    let ws = c.args.words.now in
-    let v = c.args.v in
-    let i = c.args.i in
-    let a = c.args.at in
     let o = c.requires.0 in
-    let l = open_limits ws v o in
-    (omega (arith, (open_good ws v o).long, c.move_in.auto.words), l.full_most, omega (arith, l.full_most, l.spare_full), open_spread ws v o)
+    let l = open_limits _ _ o in
+    (omega (arith, (open_good _ _ o).long, c.move_in.auto.words), l.full_most, omega (arith, l.full_most, l.spare_full), open_spread _ _ o)
 
 pub returns : goal.returns
-returns c =
-    let ws = c.args.words.now in
-    let v = c.args.v in
-    let i = c.args.i in
-    let a = c.args.at in
-    let o = c.requires.0 in
-    let y : T (sound_at (parse ws) i) = subst T (sym (said-sound (sound_at (parse ws) i) (sum (counts_at (parse ws) i)) (sym c.judge_flagged.ensures ∙ c.in-Sound.is)).0) tt in
-    let n = c.count_flagged-count.ensures in
-    let r = ready ws v i a c.count_flagged-count.result o y c.requires.1 c.requires.2 n (one_more_fits ws i a y v o (λ q. c.if-v.false (sym q))) in
-    let f : flag (bucket_at (parse ws) i) ≡ 1 = flag-here ws v i a (c.count_flagged-count.result + 1) r c.args.packed c.requires.3 c.requires.4 in
-    let p : c.args.packed / 2 ^ 48 ≡ full_number (bucket_at (parse ws) i) = ap (λ x. x / 2 ^ 48) c.requires.3 in
-    let e = open_header ws v o in
-    said c.done.result 0 (c.count_flagged-count.result + 1) c.put_totals.new.words c.done.ensures ∙ ap (λ (x : List ℕ). record { number = 0; value = c.count_flagged-count.result + 1; words = x }) c.put_totals.ensures
-    ∙ step-moved ws v i a (c.count_flagged-count.result + 1) r (v.total + 1) (c.slice_known-1.given 0).fits c.move_in.new.words c.full_at.result f (c.full_at.ensures ∙ ap (λ x. 4 + (buckets_in (header_of v) * bucket_length (header_of v) + x * 65)) p) c.move_in.ensures
-    ∙ ap₂ (λ m t. step_in ws i a (m + 1) (t + 1)) n (ap (λ (h : Header). h.total) e)
-    ∙ at-step ws i a y (λ q. c.if-v.false (sym (ap (λ (h : Header). h.total) e ∙ q ∙ sym (ap (λ (h : Header). h.limit) e))))
+returns c = search (rules, done, (c.slice_known-1.given 0).fits)
