@@ -1,5 +1,5 @@
 use mathlib.Core.Path.{sym, ap, ◌∙◌}
-use lib.Arith.{le-zero}
+use native.Mathlib.Omega.{arith}
 use Rattle.model.specs.Walls.{Header, parse}
 use Rattle.header.proofs.Places.{open_header}
 use Rattle.whole.proofs.Checking.{rest_again, rest-flags, rest_sum, rest-zero}
@@ -23,4 +23,4 @@ returns c =
     let e = open_header c.args.words.now c.args.v c.requires.0 in
     c.fulls_zero.ensures
     ∙ rest-zero (parse c.args.words.now) c.args.t c.requires.1 (c.if-t-v.false ∙ ap (λ (h : Header). h.total) e)
-    (c.if-t-v-2.false ∙ ap (λ (h : Header). h.used) e) (le-zero c.if-t-gt0.false)
+    (c.if-t-v-2.false ∙ ap (λ (h : Header). h.used) e) (omega arith)
