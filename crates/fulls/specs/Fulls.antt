@@ -1,10 +1,9 @@
 -- A flagged bucket in the words of a wall.
-use Rattle.std.specs.Prelude.{◌≡◌, Bool, List, [], ◌∷◌, ℕ, zero, suc, ◌+◌, ◌-◌, ◌/◌, ◌^◌, ◌<◌, eqb, leb, get_or}
+use Rattle.std.specs.Prelude.{◌≡◌, Bool, List, [], ◌∷◌, ℕ, zero, suc, ◌+◌, ◌-◌, ◌/◌, ◌^◌, ◌<◌, eqb, leb, get_or, Option}
 use Rattle.model.specs.Lists.{sum, one_if, every}
 use Rattle.model.specs.Packed.{rank}
 use Rattle.model.specs.Walls.{Full}
 use Rattle.model.specs.Sound.{full_count, own_counts, bucket_counts, sound_bucket, sound_place}
-use Rattle.uppers.specs.declared.Judged.{Judged}
 use Rattle.uppers.specs.Judge.{verdict}
 use Rattle.moves.specs.Full.{full_at}
 use Rattle.uppers.specs.Uppers.{rows_by}
@@ -28,7 +27,7 @@ zero_places f zero = 0
 zero_places f (suc k) = zero_places f k + one_if (eqb (full_count f k) 0)
 
 -- r is the verdict on it, with the sum of its counts, in a wall with this total and any U above its number
-abbrev pub Judges : ℕ → ℕ → ℕ → ℕ → List ℕ → ℕ → ℕ → ℕ → Judged → Type 0
+abbrev pub Judges : ℕ → ℕ → ℕ → ℕ → List ℕ → ℕ → ℕ → ℕ → Option ℕ → Type 0
 Judges w n e v ws at f total r =
     (used : ℕ) → get_or ws (at + w + 1 + n) 0 / 2 ^ 48 < used
     → r ≡ verdict (sound_bucket w (rows_by n e v) total used (bucket_in w n e v ws at) (full_at ws f)) (sum (bucket_counts (own_in w n e v ws at) (full_at ws f)))

@@ -5,6 +5,10 @@ ghost use Rattle.std.specs.Prelude.{◌≡◌, ◌+◌, ◌-◌, ◌≤◌, ◌<
 ghost use Rattle.model.specs.Shapes.{counter_bits, rows_of};
 ghost use Rattle.shapes.specs.Shapes.{entries_at, entry_bytes, shape_of, table_entries, table_width, width_at, width_bytes};
 
+mod levels;
+
+pub use levels::Levels;
+
 // Document 01's table, row by row: shapes 3, 4 and 5, levels 2 to 5.
 const ENTRIES: [[u64; 4]; 3] = [[15, 3, 0, 0], [25, 10, 2, 0], [25, 10, 3, 1]];
 
@@ -124,5 +128,15 @@ impl Shape {
         ensures { (result ≡ width_at self j) × (result < 256) }
     {
         (self.widths >> (8 * j)) % 256
+    }
+
+    pub fn levels(self) -> Levels
+        ensures { result ≡ record { count = self.uppers; entries = self.entries; widths = self.widths } }
+    {
+        Levels {
+            count: self.uppers,
+            entries: self.entries,
+            widths: self.widths,
+        }
     }
 }

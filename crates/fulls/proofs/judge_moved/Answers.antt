@@ -5,9 +5,9 @@ use native.Mathlib.Nat.{lt_of_le_of_lt}
 use native.Mathlib.Omega.{arith}
 use lib.ListN.{get_or}
 use lib.Count.{count_trailing_zeros, trailing_le}
+use Rattle.std.specs.Prelude.{Some}
 use Rattle.model.specs.Packed.{rank}
 use Rattle.model.proofs.Buckets.{length-own}
-use Rattle.uppers.specs.declared.Judged.TheVariants.{Sound}
 use Rattle.moves.specs.Full.{full_at}
 use Rattle.fulls.proofs.Places.{no_flag, flags}
 use Rattle.uppers.specs.Uppers.{rows_by}
@@ -83,7 +83,7 @@ returns-then-left-more c =
 
 -- all of them are behind
 ended : (c : goal.After-loop-m)
-    → let a = c.args in let l = c.loop-m in (l.left ≤ a.total) × (Sound (a.total - l.left) ≡ said (own_in a.width a.uppers a.e a.ws a.words.now a.at) a.words.now a.f a.total (length-own a.width (rows_by a.uppers a.e a.ws) (bucket_in a.width a.uppers a.e a.ws a.words.now a.at)))
+    → let a = c.args in let l = c.loop-m in (l.left ≤ a.total) × (Some (a.total - l.left) ≡ said (own_in a.width a.uppers a.e a.ws a.words.now a.at) a.words.now a.f a.total (length-own a.width (rows_by a.uppers a.e a.ws) (bucket_in a.width a.uppers a.e a.ws a.words.now a.at)))
 ended c =
     let a = c.args in
     let e : c.loop-m.m ≡ 0 = omega (arith, c.loop-m-test.false) in
