@@ -30,7 +30,7 @@ returns-then-k-n c =
     let l = c.loop-at in
     let a = c.args in
     let v = l.levels in
-    judge_crowd a.words.now l.at l.marks v.entries v.widths (ones l.m) l.weight l.sum v.count l.invariant.some (rw (c.count-n.ensures.0, c.entries-k.ensures.0) at c.if-k-n.true) ∙ l.invariant.same
+    judge_crowd a.words.now l.at l.marks v.entries v.widths (ones l.m) l.weight l.sum v.count l.invariant.some (omega (arith, c.count-n.ensures.0, c.entries-k.ensures.0)) ∙ l.invariant.same
 
 pub pow2-requires : goal.pow2-requires
 pow2-requires c = let l = c.loop-at in omega (arith, (here l.invariant (going l.invariant c.loop-at-test.true)).3, c.entries-k.ensures.0)
@@ -44,7 +44,7 @@ returns-then-pow2-m c =
     let a = c.args in
     let v = l.levels in
     judge_marks a.words.now l.at l.marks v.entries v.widths (ones l.m) l.weight l.sum v.count (going l.invariant c.loop-at-test.true)
-    (rw (c.count-n.ensures.0, c.entries-k.ensures.0) at c.if-k-n.false) (rw (c.pow2-in-loop-at.ensures.0, c.pow2.ensures.0, c.count-n.ensures.0, c.entries-k.ensures.0) at c.if-pow2-m.true) ∙ l.invariant.same
+    (omega (arith, c.count-n.ensures.0, c.entries-k.ensures.0)) (rw (c.pow2-in-loop-at.ensures.0, c.pow2.ensures.0, c.count-n.ensures.0, c.entries-k.ensures.0) at c.if-pow2-m.true) ∙ l.invariant.same
 
 pub judge_level-requires : goal.judge_level-requires
 judge_level-requires c =
@@ -58,7 +58,7 @@ returns-in_err-own c =
     let a = c.args in
     let v = l.levels in
     c.from_residual.ensures ∙ judge_stop a.words.now l.at l.marks v.entries v.widths (ones l.m) l.weight l.sum v.count (going l.invariant c.loop-at-test.true)
-    (rw (c.count-n.ensures.0, c.entries-k.ensures.0) at c.if-k-n.false)
+    (omega (arith, c.count-n.ensures.0, c.entries-k.ensures.0))
     (rw (c.width-w.ensures.0, c.pow2.ensures.0, c.count-n.ensures.0, c.entries-k.ensures.0) at (sym c.judge_level.ensures ∙ c.in_err-own.was)) ∙ l.invariant.same
 
 pub pow2-requires-in-loop-at-2 : goal.pow2-requires-in-loop-at-2
@@ -69,7 +69,7 @@ next : (c : goal.After-pow2-in-loop-at-2) → let l = c.loop-at in let a = c.arg
     (l.at + 1) (l.marks % c.pow2.result) (l.marks / 2 ^ c.entries-k.result) (v.count - 1) (v.entries / 256) (v.widths / 256) (l.weight + c.width-w.result) (l.sum + c.in_ok-own.own * c.pow2-in-loop-at-2.result)
 next c =
     walk_step c.loop-at.invariant c.loop-at-test.true c.count-n.result c.entries-k.result c.width-w.result c.pow2.result c.pow2-in-loop-at-2.result c.in_ok-own.own c.judge_level.result
-    c.count-n.ensures.0 c.count-n.ensures.1 c.entries-k.ensures.0 c.width-w.ensures.0 c.if-k-n.false c.pow2.ensures.0 c.pow2-in-loop-at-2.ensures.0 c.judge_level.ensures c.in_ok-own.was
+    c.count-n.ensures.0 c.count-n.ensures.1 c.entries-k.ensures.0 c.width-w.ensures.0 (omega arith) c.pow2.ensures.0 c.pow2-in-loop-at-2.ensures.0 c.judge_level.ensures c.in_ok-own.was
 
 small : (c : goal.After-pow2-in-loop-at-2) → let l = c.loop-at in l.sum + c.in_ok-own.own * c.pow2-in-loop-at-2.result < 2 ^ 63
 small c =
@@ -92,7 +92,7 @@ pub loop-at-preserved : goal.loop-at-preserved
 loop-at-preserved c =
     rw c.above-levels.ensures
     (walk_step c.loop-at.invariant c.loop-at-test.true c.count-n.result c.entries-k.result c.width-w.result c.pow2.result c.pow2-in-loop-at-2.result c.in_ok-own.own c.judge_level.result
-    c.count-n.ensures.0 c.count-n.ensures.1 c.entries-k.ensures.0 c.width-w.ensures.0 c.if-k-n.false c.pow2.ensures.0 c.pow2-in-loop-at-2.ensures.0 c.judge_level.ensures c.in_ok-own.was)
+    c.count-n.ensures.0 c.count-n.ensures.1 c.entries-k.ensures.0 c.width-w.ensures.0 (omega arith) c.pow2.ensures.0 c.pow2-in-loop-at-2.ensures.0 c.judge_level.ensures c.in_ok-own.was)
 
 pub judge_last-requires : goal.judge_last-requires
 judge_last-requires c = let l = c.loop-at in let b = at_last l.invariant in (b.0, b.1, c.count.ensures.1, b.2, l.invariant.low)
