@@ -144,9 +144,6 @@ module _ (w n e v : ℕ) (ws : List ℕ) (at : ℕ) (h : at + w + 1 + n ≤ leng
 
   -- the tests that are left, where there is no flag, number or spare bit
   module _ (low : get_or ws (at + w + 1 + n) 0 < 2 ^ 40) (total used : ℕ) where
-    marks-low : g ≡ get_or ws (at + w + 1 + n) 0
-    marks-low = mod-eq_of_lt low
-
     above : b.packed / 2 ^ 40 ≡ 0
     above = ap (λ y. y / 2 ^ 40) packed-here ∙ div-eq_of_lt low
 
@@ -184,18 +181,18 @@ module _ (w n e v : ℕ) (ws : List ℕ) (at : ℕ) (h : at + w + 1 + n ≤ leng
     sound-here = bool_eq (sound_bucket w rs total used b empty_full) (sound_by n ws (at + w + 1) g e v (ones m1) && leb (sum (own_counts w rs b)) total) plain_facts facts_plain
 
     -- as the code goes
-    abbrev verdict_here : ℕ → Option ℕ
-    verdict_here y = judged n ws (at + w + 1) y e v (ones m1) w 0
+    abbrev verdict_here : Option ℕ
+    verdict_here = judged n ws (at + w + 1) g e v (ones m1) w 0
 
-    pub unsound-here : verdict_here (get_or ws (at + w + 1 + n) 0) ≡ None → false ≡ sound_bucket w rs total used b empty_full
+    pub unsound-here : verdict_here ≡ None → false ≡ sound_bucket w rs total used b empty_full
     unsound-here f =
-        let k = said-not (sound_by n ws (at + w + 1) g e v (ones m1)) (0 + sum_by n ws (at + w + 1) g e v (ones m1) * 2 ^ w) (ap verdict_here marks-low ∙ f) in
+        let k = said-not (sound_by n ws (at + w + 1) g e v (ones m1)) (0 + sum_by n ws (at + w + 1) g e v (ones m1) * 2 ^ w) f in
         sym (sound-here ∙ rw k)
 
-    pub sound-within : {y : ℕ} → verdict_here (get_or ws (at + w + 1 + n) 0) ≡ Some y → leb (y + first_sum w (drop at ws)) total ≡ sound_bucket w rs total used b empty_full
+    pub sound-within : {y : ℕ} → verdict_here ≡ Some y → leb (y + first_sum w (drop at ws)) total ≡ sound_bucket w rs total used b empty_full
     unfolding sound_by sum_by
     sound-within {y} f =
-        let k = said-sound (sound_by n ws (at + w + 1) g e v (ones m1)) (0 + sum_by n ws (at + w + 1) g e v (ones m1) * 2 ^ w) (ap verdict_here marks-low ∙ f) in
+        let k = said-sound (sound_by n ws (at + w + 1) g e v (ones m1)) (0 + sum_by n ws (at + w + 1) g e v (ones m1) * 2 ^ w) f in
         let t : T (sound_levels 1 rs (ones m1) uppers && eqb (g / 2 ^ marks_by n e) 0) = subst T (sym k.0) tt in
         let l = and_tests (sound_levels 1 rs (ones m1) uppers) (eqb (g / 2 ^ marks_by n e) 0) t in
         let d : sum (own_counts w rs b) ≡ y + first_sum w (drop at ws) = omega (arith, sum-here l.0, k.1) in
@@ -205,14 +202,14 @@ module _ (w n e v : ℕ) (ws : List ℕ) (at : ℕ) (h : at + w + 1 + n ≤ leng
     abbrev weighed : Option ℕ
     weighed = verdict (sound_bucket w rs total used b empty_full) (sum (own_counts w rs b))
 
-    pub unsound_weighed : verdict_here (get_or ws (at + w + 1 + n) 0) ≡ None → None ≡ weighed
+    pub unsound_weighed : verdict_here ≡ None → None ≡ weighed
     unsound_weighed f = ap (λ k. verdict k (sum (own_counts w rs b))) (unsound-here f)
 
-    module _ {y : ℕ} (f : verdict_here (get_or ws (at + w + 1 + n) 0) ≡ Some y) (own : ℕ) (d : own ≡ y + first_sum w (drop at ws)) where
+    module _ {y : ℕ} (f : verdict_here ≡ Some y) (own : ℕ) (d : own ≡ y + first_sum w (drop at ws)) where
       sum_weighed : own ≡ sum (own_counts w rs b)
       unfolding sound_by sum_by
       sum_weighed =
-          let k = said-sound (sound_by n ws (at + w + 1) g e v (ones m1)) (0 + sum_by n ws (at + w + 1) g e v (ones m1) * 2 ^ w) (ap verdict_here marks-low ∙ f) in
+          let k = said-sound (sound_by n ws (at + w + 1) g e v (ones m1)) (0 + sum_by n ws (at + w + 1) g e v (ones m1) * 2 ^ w) f in
           let t : T (sound_levels 1 rs (ones m1) uppers && eqb (g / 2 ^ marks_by n e) 0) = subst T (sym k.0) tt in
           let l = and_tests (sound_levels 1 rs (ones m1) uppers) (eqb (g / 2 ^ marks_by n e) 0) t in
           omega (arith, sum-here l.0, k.1)
@@ -226,8 +223,8 @@ module _ (w n e v : ℕ) (ws : List ℕ) (at : ℕ) (h : at + w + 1 + n ≤ leng
       pub sound_weighed : own ≤ total → Some own ≡ weighed
       sound_weighed h = ap₂ verdict (sym (le-leb own total h) ∙ test_weighed) sum_weighed
 
-    pub upper_small : Ahead n e v w → w ≤ 16 → {y : ℕ} → verdict_here (get_or ws (at + w + 1 + n) 0) ≡ Some y → y < 2 ^ 63
+    pub upper_small : Ahead n e v w → w ≤ 16 → {y : ℕ} → verdict_here ≡ Some y → y < 2 ^ 63
     upper_small a k {y} f =
-        let d = (said-sound (sound_by n ws (at + w + 1) g e v (ones m1)) (0 + sum_by n ws (at + w + 1) g e v (ones m1) * 2 ^ w) (ap verdict_here marks-low ∙ f)).1 in
+        let d = (said-sound (sound_by n ws (at + w + 1) g e v (ones m1)) (0 + sum_by n ws (at + w + 1) g e v (ones m1) * 2 ^ w) f).1 in
         let m = sum_small n ws (at + w + 1) g e v (ones m1) w (omega arith) a (ones-le 64 m1 (each (at + w))) in
         omega (arith, add-mul (sum_by n ws (at + w + 1) g e v (ones m1)) 64 (2 ^ w))

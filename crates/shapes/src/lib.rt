@@ -10,10 +10,6 @@ mod levels;
 
 pub use levels::Levels;
 
-mod levels;
-
-pub use levels::Levels;
-
 // Document 01's table, row by row: shapes 3, 4 and 5, levels 2 to 5.
 const ENTRIES: [[u64; 4]; 3] = [[15, 3, 0, 0], [25, 10, 2, 0], [25, 10, 3, 1]];
 
@@ -102,16 +98,6 @@ impl Shape {
         ensures { (result ≡ width_at self j) × (result < 256) }
     {
         byte(self.widths, j)
-    }
-
-    pub fn levels(self) -> Levels
-        ensures { result ≡ record { count = self.uppers; entries = self.entries; widths = self.widths } }
-    {
-        Levels {
-            count: self.uppers,
-            entries: self.entries,
-            widths: self.widths,
-        }
     }
 
     pub fn levels(self) -> Levels
