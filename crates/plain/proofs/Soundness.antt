@@ -3,7 +3,7 @@ use mathlib.Core.Path.{◌≡◌, refl, sym, ap, ap₂, ◌∙◌, subst, subst�
 use mathlib.Core.Bool.{Bool, true, false, ◌&&◌}
 use mathlib.Core.List.{List, [], ◌∷◌}
 use Prim.Native.Nat.{ℕ, zero, suc, ◌+◌, ◌*◌, ◌/◌, ◌%◌, ◌^◌, ◌≤◌, ◌<◌, zero-le}
-use native.Mathlib.Nat.{le_refl, le_trans, le_of_eq, mul_comm, mul_assoc, add-mul, div-eq_of_lt, zero-mul, not-suc-le-zero, mul-le-mul_left, mul-le-mul_right, mod-eq_of_lt, mod-lt}
+use native.Mathlib.Nat.{le_refl, le_trans, le_of_eq, mul_comm, mul_assoc, add-mul, div-eq_of_lt, zero-mul, not-suc-le-zero, mul-le-mul_left, mul-le-mul_right, mod-lt}
 use native.Mathlib.Omega.{arith}
 use lib.Dec.{T, leb, ltb, eqb, leb→le, le→leb, eqb→eq}
 use lib.ListN.{length, get_or, take, drop, length-map, length-drop}

@@ -1,6 +1,6 @@
 -- What a walk over levels asks of the shape has at most one proof.
 use Rattle.std.specs.Prelude.{ℕ, zero, suc, ◌+◌, ◌/◌, ◌%◌}
-use Rattle.std.specs.Coded.{×_prop, Unit-prop, le_prop}
+use Rattle.std.specs.Coded.{Unit-prop, le_prop}
 use Rattle.std.proofs.Props.{props}
 use Rattle.uppers.specs.Uppers.{Ahead, MarksFit}
 

@@ -36,7 +36,13 @@ impl Site<'_> {
         ensures { result ≡ upper_of self.now }
     {
         let first = self.at + self.shape.width as usize + 1;
-        uppers::judge(self.words, first, self.marks(), self.upper_marks(), self.shape)
+        uppers::judge(
+            self.words,
+            first,
+            self.marks(),
+            self.upper_marks(),
+            self.shape,
+        )
     }
 
     // The bucket's own count at a place.
@@ -44,8 +50,7 @@ impl Site<'_> {
         requires { place < 64 }
         ensures { result ≡ get_or (own_of self.now) place 0 }
     {
-        let s = self.shape;
-        reads::count(self.words, self.at, place, self.upper_marks(), s.width, s.uppers, s.entries, s.widths)
+        reads::count(self.words, self.at, place, self.upper_marks(), self.shape)
     }
 
     // Whether the counts add up to at most the total: upper is what they have above level 1, which is summed only where its largest entries

@@ -15,8 +15,12 @@ pub overflow_add-own : goal.overflow_add-own
 overflow_add-own c =
     let s = c.args.self.now in
     let p : 2 ^ s.shape.width ≤ 2 ^ 16 = pow_mono s.narrow in
-    omega (arith, first_most s.shape.width (drop s.at s.words.now), c.sum_first.ensures,
-    upper_small s.shape.width s.shape.uppers s.shape.entries s.shape.widths s.words.now s.at (omega (arith, s.there)) s.fit c.requires c.args.total 0 s.levels s.narrow (sym c.upper.ensures ∙ c.in_ok-own.was))
+    omega (
+      arith,
+      first_most s.shape.width (drop s.at s.words.now),
+      c.sum_first.ensures,
+      upper_small s.shape.width s.shape.uppers s.shape.entries s.shape.widths s.words.now s.at (omega (arith, s.there)) s.fit c.requires c.args.total 0 s.levels s.narrow (sym c.upper.ensures ∙ c.in_ok-own.was),
+    )
 
 pub returns-then-total-own : goal.returns-then-total-own
 returns-then-total-own c =
