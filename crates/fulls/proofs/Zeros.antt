@@ -9,10 +9,10 @@ use native.Mathlib.Numerals.{add-one}
 use native.Mathlib.Omega.{arith}
 use lib.Dec.{ltb, eqb}
 use lib.ListN.{length, get_or, take, drop, length-drop}
-use lib.Seq.{get_or-drop}
+use lib.Seq.{get_or-drop, length-take-le}
 use borrow.Author.Tests.{ltb-true, ne_eqb}
 use Rattle.std.specs.Prelude.{◌==◌, count_by}
-use Rattle.std.proofs.lemmas.List.Sums.{count_by_more_yes, count_by_more_no}
+use Rattle.std.proofs.lemmas.List.Sums.{count_by_more_yes, count_by_more_no, count_by-le-length}
 use Rattle.model.specs.Lists.{by_mark, one_if}
 use Rattle.model.specs.Packed.{bit, rank}
 use Rattle.model.specs.Walls.{Full}
@@ -127,6 +127,13 @@ module _ (ws : List ℕ) (at : ℕ) (h : at + 65 ≤ length ws) where
   one_more k l before false e =
       count_by_more_no (λ x. x == 0) rest k 0 (rw length-drop (omega arith)) (rw get_or-drop e) ∙ omega (arith, counted ws at k (zeros_of k) l before false e)
 
-  pub zeros_counted : (k : ℕ) → k ≤ 64 → zeros_of k ≡ zero_places (full_at ws at) k
+  zeros_counted : (k : ℕ) → k ≤ 64 → zeros_of k ≡ zero_places (full_at ws at) k
   zeros_counted zero l = no_zeros (full_at ws at)
   zeros_counted (suc k) l = rw (← add-one k) (one_more k (omega arith) (zeros_counted k (omega arith)) (eqb (get_or ws (at + 1 + k) 0) 0) refl)
+
+  -- the number of zeros in the 64 words, as the code takes them
+  pub all_zeros : (r k : ℕ) → r ≡ zeros_of k → k ≡ 64 → (r ≡ zero_places (full_at ws at) 64) × (r ≤ 64)
+  all_zeros r k e f =
+      let all : r ≡ zeros_of 64 = rw f at e in
+      let few : 64 ≤ length rest = rw length-drop (omega (arith, h)) in
+      (all ∙ zeros_counted 64 (le_refl 64), omega (arith, all, count_by-le-length (λ x. x == 0) (take 64 rest), length-take-le 64 rest few))
