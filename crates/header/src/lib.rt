@@ -67,20 +67,14 @@ pub fn limit_fits(v: Wall) -> bool
     requires { Known v }
     ensures { result ≡ limit_fits (header_of v) }
 {
-    if v.limit < 1 {
-        return false;
-    }
-    v.limit < packed::pow2(shapes::counter_bits(v.shape, v.width))
+    (1..packed::pow2(shapes::counter_bits(v.shape, v.width))).contains(&v.limit)
 }
 
 pub fn full_fits(v: Wall) -> bool
     requires { Known v }
     ensures { result ≡ full_fits (header_of v) }
 {
-    if buckets(v) < v.full {
-        return false;
-    }
-    Wall::known_full(v.full)
+    v.full <= buckets(v) && Wall::known_full(v.full)
 }
 
 // Shape, width and bits are judged before anything is computed with them.
