@@ -4,36 +4,36 @@ use mathlib.Core.Bool.{Bool, true, false, not}
 use mathlib.Core.List.{List}
 use Prim.Native.Nat.{ℕ, ◌+◌, ◌-◌, ◌*◌, ◌/◌, ◌%◌, ◌^◌, ◌≤◌, ◌<◌}
 use native.Mathlib.Omega.{arith}
-use lib.Dec.{T, leb, le→leb, leb→le}
+use lib.Dec.{T, leb, eqb, le→leb, leb→le, eqb→eq}
 use lib.Pow.{pow_mono, shr-shr, shr_lt}
 use native.Mathlib.Nat.{mul-le-mul, mod-eq_of_lt}
 use lib.ListN.{length}
+use Rattle.std.specs.Prelude.{Option, Some, None, Result, Err, option_map, ok_or}
+use Rattle.answer.specs.declared.Refusal.{Refusal}
+use Rattle.answer.specs.declared.Refusal.TheVariants.{BadHeader}
 use Rattle.model.specs.Lists.{choose}
 use Rattle.model.specs.Shapes.{known_shape, valid_width, rows_of}
 use Rattle.model.specs.Slots.{known_bits, valid_spread}
-use Rattle.model.specs.Walls.{Header, head_field, word_at, good, limit_fits, full_fits, buckets_in, bucket_length, wall_size}
+use Rattle.model.specs.Walls.{Header, read_header, head_field, word_at, good, limit_fits, full_fits, buckets_in, bucket_length, wall_size}
 use Rattle.model.proofs.Crowding.{T_true}
 use Rattle.model.proofs.Tools.{and_tests, tests_and}
-use Rattle.model.proofs.Headers.{Limits, limits_of, good_of, of_good, shape_bounds, rows_fine}
+use Rattle.model.proofs.Headers.{Limits, limits_of, good_of, of_good, eq-eqb, shape_bounds, rows_fine}
 use Rattle.model.proofs.Headers as model
 use Rattle.layout.specs.declared.Wall.{Wall}
 use Rattle.shapes.specs.Shapes.{shape_of, Valid}
 use Rattle.layout.specs.Views.{header_of}
 use Rattle.shapes.proofs.Shapes.{table_shape, table_length}
-use Rattle.header.specs.declared.Opened.TheVariants.{Good, Bad}
-use Rattle.header.specs.Headers.{fields_of, Known, Marked, Open, opened_of}
+use Rattle.header.specs.Headers.{fields_of, Known, Marked, opened_of}
 
 pub is_false : (b : Bool) → (T b → ⊥) → false ≡ b
 is_false true f = absurd (f tt)
 is_false false f = refl
 
--- ---- opened
-
-pub opened_bad : (ws : List ℕ) → (model.Good ws → ⊥) → Bad ≡ opened_of ws
-opened_bad ws f = ap (λ b. choose b (Good (fields_of ws)) Bad) (is_false (good ws) (λ t. f (good_of ws t)))
-
-pub opened_good : (ws : List ℕ) → model.Good ws → Good (fields_of ws) ≡ opened_of ws
-opened_good ws g = ap (λ b. choose b (Good (fields_of ws)) Bad) (T_true (good ws) (of_good ws g))
+both : (a b : Bool) → (T a → T b) → (T b → T a) → a ≡ b
+both true true f g = refl
+both true false f g = absurd (f tt)
+both false true f g = absurd (g tt)
+both false false f g = refl
 
 -- ---- shape, width and bits
 
@@ -77,6 +77,9 @@ size_most h n m a b c = let p : h * n ≤ 65536 * 22 = mul-le-mul a b in omega a
 
 -- ---- a header that fails a test, and one that passes them all
 
+pub bad : (ws : List ℕ) → (model.Good ws → ⊥) → false ≡ good ws
+bad ws f = is_false (good ws) (λ t. f (good_of ws t))
+
 not_both : (r : Bool) → T r → not r ≡ true → ⊥
 not_both true t e = subst T (sym e) tt
 not_both false t e = t
@@ -86,30 +89,31 @@ module _ (ws : List ℕ) (v : Wall) (e : v ≡ fields_of ws) where
   limits-at g = subst (λ (v : Wall). Limits (header_of v)) (sym e) g.limits
 
   -- a test that every header within its limits passes
-  pub fails_test : (p : Header → Bool) → ((h : Header) → Limits h → T (p h)) → (r : Bool) → r ≡ p (header_of v) → not r ≡ true → Bad ≡ opened_of ws
-  fails_test p given r f n = opened_bad ws (λ g. not_both r (subst T (sym f) (given (header_of v) (limits-at g))) n)
+  pub fails_test : (p : Header → Bool) → ((h : Header) → Limits h → T (p h)) → (r : Bool) → r ≡ p (header_of v) → not r ≡ true → false ≡ good ws
+  fails_test p given r f n = bad ws (λ g. not_both r (subst T (sym f) (given (header_of v) (limits-at g))) n)
 
-  pub fails_fact : (Limits (header_of v) → ⊥) → Bad ≡ opened_of ws
-  fails_fact f = opened_bad ws (λ g. f (limits-at g))
+  pub fails_fact : (Limits (header_of v) → ⊥) → false ≡ good ws
+  fails_fact f = bad ws (λ g. f (limits-at g))
 
-  pub fails_length : (n : ℕ) → n ≡ wall_size (header_of v) → (length ws ≡ n → ⊥) → Bad ≡ opened_of ws
-  fails_length n f z = opened_bad ws (λ g. z (g.exact ∙ ap (λ (v : Wall). wall_size (header_of v)) (sym e) ∙ sym f))
-
+  -- the length decides
   pub passes : Marked ws → Known v → T (limit_fits (header_of v)) → T (full_fits (header_of v)) → v.total ≤ v.limit → v.used ≤ v.full → T (valid_spread v.bits v.spread)
-      → length ws ≡ wall_size (header_of v) → Good v ≡ opened_of ws
-  passes m k t f total used spread exact =
+      → eqb (length ws) (wall_size (header_of v)) ≡ good ws
+  passes m k t f total used spread =
       let s : T (known_shape v.shape) = tests_and (leb 3 v.shape) (leb v.shape 5) (le→leb 3 v.shape k.shape_low) (le→leb v.shape 5 k.shape_high) in
       let w : T (valid_width v.width) = tests_and (leb 1 v.width) (leb v.width 16) (le→leb 1 v.width k.width_low) (le→leb v.width 16 k.width_high) in
       let b : T (known_bits v.bits) = tests_and (leb 6 v.bits) (leb v.bits 22) (le→leb 6 v.bits k.bits_low) (le→leb v.bits 22 k.bits_high) in
       let l : Limits (header_of v) = limits_of (header_of v) (rows_fine v.shape s)
       (s, (w, (b, (t, (f, (le→leb v.total v.limit total, (le→leb v.used v.full used, (spread, tt)))))))) in
-      ap Good e ∙ opened_good ws (record {
+      let same : wall_size (header_of v) ≡ wall_size (read_header ws) = ap (λ (v : Wall). wall_size (header_of v)) e in
+      both (eqb (length ws) (wall_size (header_of v))) (good ws)
+      (λ t. of_good ws (record {
         long = m.long;
         marked = m.letters;
         version = m.version;
-        exact = exact ∙ ap (λ (v : Wall). wall_size (header_of v)) e;
+        exact = eqb→eq (length ws) (wall_size (header_of v)) t ∙ same;
         limits = subst (λ (v : Wall). Limits (header_of v)) e l;
-      })
+      }))
+      (λ t. eq-eqb ((good_of ws t).exact ∙ sym same))
 
 pub spread_test : (h : Header) → Limits h → T (valid_spread h.bits h.spread)
 spread_test h l = l.spread-valid
@@ -133,18 +137,16 @@ known_of v s w b =
 
 -- ---- an opened header
 
--- what an opened header says, and what it means that none was opened
-pub opened : (ws : List ℕ) (v : Wall) → Good v ≡ opened_of ws → (v ≡ fields_of ws) × model.Good ws
-opened ws v e = go (good ws) (λ t. good_of ws t) e
-  where
-    go : (b : Bool) → (T b → model.Good ws) → Good v ≡ Rattle.model.specs.Lists.choose b (Good (fields_of ws)) Bad → (v ≡ fields_of ws) × model.Good ws
-    go true f q = (cc, f tt)
-    go false f q = let z : ◌≡◌ {A = ℕ} 0 1 = cc in absurd (omega arith)
+pub opened_bad : (ws : List ℕ) → false ≡ good ws → None ≡ opened_of ws
+opened_bad ws e = ap (λ b. choose b (Some (fields_of ws)) None) e
 
-pub not_opened : (ws : List ℕ) → Bad ≡ opened_of ws → T (not (good ws))
+pub opened_good : (ws : List ℕ) → T (good ws) → Some (fields_of ws) ≡ opened_of ws
+opened_good ws t = ap (λ b. choose b (Some (fields_of ws)) None) (T_true (good ws) t)
+
+pub not_opened : (ws : List ℕ) → None ≡ opened_of ws → T (not (good ws))
 not_opened ws e = go (good ws) e
   where
-    go : (b : Bool) → Bad ≡ Rattle.model.specs.Lists.choose b (Good (fields_of ws)) Bad → T (not b)
+    go : (b : Bool) → None ≡ choose b (Some (fields_of ws)) None → T (not b)
     go true q = let z : ◌≡◌ {A = ℕ} 0 1 = cc in absurd (omega arith)
     go false q = tt
 
@@ -153,5 +155,7 @@ good-known ws g =
     let l = g.limits in
     record { shape_low = l.shape_low; shape_high = l.shape_high; width_low = l.width_low; width_high = l.width_high; bits_low = l.bits_low; bits_high = l.bits_high }
 
-pub is_open : (ws : List ℕ) (v : Wall) → Good v ≡ opened_of ws → Open ws v
-is_open ws v e = let o = opened ws v e in record { fields = o.0; good = of_good ws o.1 }
+-- where a call ends because no header is opened, it refuses with 7, which is met
+pub unopened : {X : Type 0} (f : X → Wall) (o : Option X) (ws : List ℕ) (r : Refusal) → option_map f o ≡ opened_of ws → ◌≡◌ {A = Result X Refusal} (Err r) (ok_or o BadHeader) → (r ≡ BadHeader) × T (not (good ws))
+unopened f None ws r e h = (cc, not_opened ws e)
+unopened f (Some o) ws r e h = let z : ◌≡◌ {A = ℕ} 0 1 = cc in absurd (omega arith)

@@ -1,10 +1,8 @@
 -- A wall's header as the code opens it.
-use Rattle.std.specs.Prelude.{◌≡◌, List, ℕ, ◌/◌, ◌%◌, ◌^◌, ◌≤◌, T, length}
+use Rattle.std.specs.Prelude.{◌≡◌, List, ℕ, ◌/◌, ◌%◌, ◌^◌, ◌≤◌, T, length, Option, Some, None}
 use Rattle.model.specs.Lists.{choose}
 use Rattle.model.specs.Walls.{head_field, letters, version, word_at, good}
 use Rattle.layout.specs.declared.Wall.{Wall}
-use Rattle.header.specs.declared.Opened.{Opened}
-use Rattle.header.specs.declared.Opened.TheVariants.{Good, Bad}
 
 -- the fields of the first four words
 abbrev pub fields_of : List ℕ → Wall
@@ -35,8 +33,8 @@ pub record Marked (ws : List ℕ) : Type 0 where
   pub version : head_field ws 1 ≡ version
 
 -- the header of words that number 7 does not meet
-abbrev pub opened_of : List ℕ → Opened
-opened_of ws = choose (good ws) (Good (fields_of ws)) Bad
+abbrev pub opened_of : List ℕ → Option Wall
+opened_of ws = choose (good ws) (Some (fields_of ws)) None
 
 -- v is the header of these words, and good
 pub record Open (ws : List ℕ) (v : Wall) : Type 0 where

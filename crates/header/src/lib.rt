@@ -1,17 +1,20 @@
 #![tactic(auto)]
 
-ghost use Rattle.std.specs.Prelude.{◌≡◌, ◌+◌, ◌-◌, ◌*◌, ◌≤◌, ◌<◌, length};
-ghost use Rattle.model.specs.Walls.{buckets_in, bucket_length, wall_size, limit_fits, full_fits};
+ghost use Rattle.std.specs.Prelude.{◌≡◌, ◌+◌, ◌-◌, ◌*◌, ◌≤◌, ◌<◌, T, length, option_map, IfSome};
+ghost use Rattle.std.specs.Coded.{Coded-set};
+ghost use Rattle.model.specs.Walls.{buckets_in, bucket_length, wall_size, limit_fits, full_fits, good};
 ghost use Rattle.layout.specs.Views.{header_of};
 ghost use Rattle.header.specs.Headers.{Known, Marked, fields_of, opened_of};
 
 use layout::Wall;
 
-// A header that is good, or not.
+// The words of a wall whose header is good.
 #[derive(Clone, Copy)]
-pub enum Opened {
-    Good(Wall),
-    Bad,
+pub struct Opened<'a> {
+    pub words: &'a [u64],
+    pub header: Wall,
+    ghost fields: { header ≡ fields_of words.now } by { Coded-set header-code header (fields_of words.now) },
+    ghost good: { T (good words.now) },
 }
 
 // The letters B, W, L and version 1.
@@ -64,69 +67,64 @@ pub fn limit_fits(v: Wall) -> bool
     requires { Known v }
     ensures { result ≡ limit_fits (header_of v) }
 {
-    if v.limit < 1 {
-        return false;
-    }
-    v.limit < packed::pow2(shapes::counter_bits(v.shape, v.width))
+    (1..packed::pow2(shapes::counter_bits(v.shape, v.width))).contains(&v.limit)
 }
 
 pub fn full_fits(v: Wall) -> bool
     requires { Known v }
     ensures { result ≡ full_fits (header_of v) }
 {
-    if buckets(v) < v.full {
-        return false;
-    }
-    Wall::known_full(v.full)
+    v.full <= buckets(v) && Wall::known_full(v.full)
 }
 
 // Shape, width and bits are judged before anything is computed with them.
-pub fn open(words: &[u64]) -> Opened
-    ensures { result ≡ opened_of words.now }
+pub fn open(words: &[u64]) -> Option<Opened<'_>>
+    ensures header { option_map (λ o. o.header) result ≡ opened_of words.now }
+    ensures words { IfSome result (λ o. o.words.now ≡ words.now) }
 {
     if words.len() < 4 {
-        return Opened::Bad;
+        return None;
     }
     if words[0] % 1099511627776 != MARK {
-        return Opened::Bad;
+        return None;
     }
     let v = fields(words);
     if !Wall::known_shape(v.shape) {
-        return Opened::Bad;
+        return None;
     }
     if !Wall::valid_width(v.width) {
-        return Opened::Bad;
+        return None;
     }
     if !Wall::known_bits(v.bits) {
-        return Opened::Bad;
+        return None;
     }
-    open_sized(words, v)
+    if !fits(words, v) {
+        return None;
+    }
+    Some(Opened { words, header: v })
 }
 
 // `open` shows what this asks.
-fn open_sized(words: &[u64], v: Wall) -> Opened
+fn fits(words: &[u64], v: Wall) -> bool
     requires { Known v × Marked words.now × (v ≡ fields_of words.now) }
-    ensures { result ≡ opened_of words.now }
+    ensures { result ≡ good words.now }
 {
     if !limit_fits(v) {
-        return Opened::Bad;
+        return false;
     }
     if !full_fits(v) {
-        return Opened::Bad;
+        return false;
     }
     if v.limit < v.total {
-        return Opened::Bad;
+        return false;
     }
     if v.full < v.used {
-        return Opened::Bad;
+        return false;
     }
     if !spreads::valid(v.bits, v.spread) {
-        return Opened::Bad;
+        return false;
     }
-    if words.len() as u64 != size(v) {
-        return Opened::Bad;
-    }
-    Opened::Good(v)
+    words.len() as u64 == size(v)
 }
 
 // Where bucket i begins. A good header and the slot of one of its flows show what this asks.

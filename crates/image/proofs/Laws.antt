@@ -1,58 +1,47 @@
 -- Word n of an image: its eight bytes as one number, and where it is there.
-use mathlib.Core.Path.{◌≡◌}
-use mathlib.Core.List.{List}
-use Prim.Native.Nat.{ℕ, zero, suc, ◌+◌, ◌*◌, ◌-◌, ◌/◌, ◌^◌, ◌≤◌, ◌<◌}
-use native.Mathlib.Nat.{not-suc-le-zero, add-zero, mul-suc}
+use mathlib.Core.Path.{◌≡◌, refl, sym, ap, ◌∙◌}
+use mathlib.Core.List.{List, [], ◌∷◌}
+use Prim.Native.Nat.{ℕ, zero, suc, ◌+◌, ◌*◌, ◌/◌, ◌≤◌, ◌<◌}
 use native.Mathlib.Omega.{arith}
+use Rattle.std.proofs.lemmas.List.{drop-drop, length-drop, length-take-le}
 use lib.ListN.{length, take, drop, get_or}
-use lib.Seq.{drop-cons}
-use lib.Arith.{digits_lt}
-use lib.Pow.{pow-add, pow_mono}
 use borrow.Author.Tests.{lt-ltb, le-ltb}
+use Rattle.std.specs.Int.{from_le_bytes, w64}
+use Rattle.std.specs.Simd.{first_chunks}
 use Rattle.model.specs.Packed.{pack}
 use Rattle.model.specs.Calls.{image_call}
 
--- ---- the eight bytes, from the high one down
+-- chunk i of k chunks of eight
+chunk-at : (d : List ℕ) (k i : ℕ) (s : List ℕ) → i < k → get_or (first_chunks 8 k s) i d ≡ take 8 (drop (8 * i) s)
+chunk-at d zero i s h = absurd (omega arith)
+chunk-at d (suc k) zero s h = refl
+chunk-at d (suc k) (suc i) s h = chunk-at d k i (drop 8 s) (omega arith) ∙ ap (take 8) (drop-drop (8 * i) 8 s ∙ ap (λ n. drop n s) (omega arith))
 
--- with `left` bytes to go, the number is that of the bytes above them
-pub record Made (s : List ℕ) (at left number : ℕ) : Type 0 where
-  pub within : left ≤ 8
-  pub is : number ≡ pack 8 (take (8 - left) (drop (at + left) s))
-  pub small : number < 2 ^ (8 * (8 - left))
+-- eight bytes as one number, low byte first
+packed : (s : List ℕ) → length s ≡ 8 → from_le_bytes w64 s ≡ pack 8 s
+packed (a ∷ b ∷ c ∷ d ∷ e ∷ f ∷ g ∷ h ∷ []) l = omega arith
+packed [] l = absurd (omega arith)
+packed (a ∷ []) l = absurd (omega arith)
+packed (a ∷ b ∷ []) l = absurd (omega arith)
+packed (a ∷ b ∷ c ∷ []) l = absurd (omega arith)
+packed (a ∷ b ∷ c ∷ d ∷ []) l = absurd (omega arith)
+packed (a ∷ b ∷ c ∷ d ∷ e ∷ []) l = absurd (omega arith)
+packed (a ∷ b ∷ c ∷ d ∷ e ∷ f ∷ []) l = absurd (omega arith)
+packed (a ∷ b ∷ c ∷ d ∷ e ∷ f ∷ g ∷ []) l = absurd (omega arith)
+packed (a ∷ b ∷ c ∷ d ∷ e ∷ f ∷ g ∷ h ∷ i ∷ s) l = absurd (omega arith)
 
--- so one byte more fits a word
-pub room : {s : List ℕ} {at left number : ℕ} → Made s at left number → 0 < left → number < 2 ^ 56
-room {left = left} m p =
-    let h : 8 * (8 - left) ≤ 56 = omega arith in
-    omega (arith, m.small, pow_mono h)
-
--- the next byte goes in below
-pub more : (s : List ℕ) (at left number l b : ℕ)
-    → Made s at left number
-    → left ≡ suc l
-    → at + 8 ≤ length s
-    → b ≡ get_or s (at + l) 0
-    → b < 256
-    → Made s at l (number * 256 + b)
-more s at left number l b m e f v lt =
-    let k : 8 - l ≡ suc (8 - left) = omega (arith, m.within) in
-    let n : at + left ≡ suc (at + l) = omega arith in
-    let i : at + l < length s = omega (arith, m.within) in
-    record {
-      within = omega (arith, m.within);
-      is = rw (k, drop-cons s (at + l) 0 i, m.is, n, v);
-      small = rw (k, mul-suc 8 (8 - left), pow-add) (digits_lt m.small lt);
-    }
-
-pub whole : {s : List ℕ} {at left number : ℕ} → Made s at left number → left ≤ 0 → number ≡ pack 8 (take 8 (drop at s))
-whole {left = zero} m h = rw add-zero at m.is
-whole {left = suc l} m h = absurd (not-suc-le-zero h)
-
--- ---- word n is in the image where n is below the number of whole words
-
-pub inside : (s : List ℕ) (n : ℕ) → n < length s / 8 → image_call s n ≡ record { number = 0; value = pack 8 (take 8 (drop (8 * n) s)) }
+-- word n is in the image where n is below the number of whole words
+inside : (s : List ℕ) (n : ℕ) → n < length s / 8 → image_call s n ≡ record { number = 0; value = pack 8 (take 8 (drop (8 * n) s)) }
 unfolding image_call
 inside s n h = rw (le-ltb (length s) (8 * n + 8) (omega arith))
+
+-- r is the number of chunk n
+pub read : (s d : List ℕ) (n r : ℕ) → n < length s / 8 → r ≡ from_le_bytes w64 (get_or (first_chunks 8 (length s / 8) s) n d)
+    → record { number = 0; value = r } ≡ image_call s n
+read s d n r h e =
+    let x = chunk-at d (length s / 8) n s h in
+    let l : length (take 8 (drop (8 * n) s)) ≡ 8 = length-take-le 8 (drop (8 * n) s) (omega (arith, length-drop (8 * n) s)) in
+    ap (λ v. record { number = 0; value = v }) (e ∙ ap (from_le_bytes w64) x ∙ packed (take 8 (drop (8 * n) s)) l) ∙ sym (inside s n h)
 
 pub outside : (s : List ℕ) (n : ℕ) → length s / 8 ≤ n → image_call s n ≡ record { number = 6; value = 0 }
 unfolding image_call

@@ -1,16 +1,7 @@
 -- A test of the code and what it says.
-use mathlib.Core.Path.{◌≡◌, refl, sym, subst}
-use mathlib.Core.Bool.{Bool, true, false, not, ◌&&◌}
+use mathlib.Core.Path.{◌≡◌, sym, subst}
+use mathlib.Core.Bool.{Bool, true, false, not}
 use lib.Dec.{T}
-
--- two tests in turn: the first fails; it passes, and the second decides
-pub first_fails : (a b : Bool) → (T a → ⊥) → false ≡ a && b
-first_fails true b f = absurd (f tt)
-first_fails false b f = refl
-
-pub second_decides : (a b : Bool) → T a → b ≡ a && b
-second_decides true b t = refl
-second_decides false b t = absurd t
 
 -- r is what the code found of the test t: its negation failed, or was met
 pub passed : (r t : Bool) → r ≡ t → not r ≡ false → T t

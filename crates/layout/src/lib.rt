@@ -1,12 +1,12 @@
 #![tactic(auto)]
 
 ghost use Rattle.std.specs.Prelude.{◌≡◌, leb, replicate};
-ghost use Rattle.answer.specs.Answers.{reply_of};
+ghost use Rattle.answer.specs.Answers.{reply_of, answer_of};
 ghost use Rattle.model.specs.Calls.{limits_call};
 ghost use Rattle.model.specs.Shapes.{known_shape, valid_width, width_asked};
 ghost use Rattle.model.specs.Slots.{known_bits};
 
-use answer::Answer;
+use answer::Refusal;
 use bucket::Bucket;
 use growth::Upper;
 
@@ -44,29 +44,20 @@ impl Wall {
     pub fn known_shape(shape: u64) -> bool
         ensures { result ≡ known_shape shape }
     {
-        if shape < Wall::MIN_SHAPE {
-            return false;
-        }
-        shape <= Wall::MAX_SHAPE
+        (Wall::MIN_SHAPE..=Wall::MAX_SHAPE).contains(&shape)
     }
 
     // Of a header's own width: 0, which asks for the default, is none.
     pub fn valid_width(width: u64) -> bool
         ensures { result ≡ valid_width width }
     {
-        if width < Wall::MIN_WIDTH {
-            return false;
-        }
-        width <= Wall::MAX_WIDTH
+        (Wall::MIN_WIDTH..=Wall::MAX_WIDTH).contains(&width)
     }
 
     pub fn known_bits(bits: u64) -> bool
         ensures { result ≡ known_bits bits }
     {
-        if bits < Wall::MIN_BITS {
-            return false;
-        }
-        bits <= Wall::MAX_BITS
+        (Wall::MIN_BITS..=Wall::MAX_BITS).contains(&bits)
     }
 
     // Of J, whatever the number of buckets.
@@ -102,15 +93,15 @@ impl Wall {
 }
 
 // L of a shape at a width, where 0 asks for the default.
-pub fn limits(shape: u64, width: u64) -> Answer
-    ensures { reply_of result ≡ limits_call shape width }
+pub fn limits(shape: u64, width: u64) -> Result<u64, Refusal>
+    ensures { reply_of (answer_of result) ≡ limits_call shape width }
 {
     if !Wall::known_shape(shape) {
-        return Answer::refused(1);
+        return Err(Refusal::BadShape);
     }
     if Wall::MAX_WIDTH < width {
-        return Answer::refused(2);
+        return Err(Refusal::BadWidth);
     }
     let w = Wall::width_asked(width);
-    Answer::done(shapes::counter_bits(shape, w))
+    Ok(shapes::counter_bits(shape, w))
 }

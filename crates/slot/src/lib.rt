@@ -1,27 +1,27 @@
 #![tactic(auto)]
 
 ghost use Rattle.std.specs.Prelude.{◌≡◌};
-ghost use Rattle.answer.specs.Answers.{reply_of};
+ghost use Rattle.answer.specs.Answers.{reply_of, answer_of};
 ghost use Rattle.model.specs.Calls.{slot_call};
 
-use answer::Answer;
+use answer::Refusal;
 use layout::Wall;
 
 // The three tests are asked first, and the ifs then say the order of the refusals.
-pub fn slot(bits: u64, spread: u64, flow: u64) -> Answer
-    ensures { reply_of result ≡ slot_call bits spread flow }
+pub fn slot(bits: u64, spread: u64, flow: u64) -> Result<u64, Refusal>
+    ensures { reply_of (answer_of result) ≡ slot_call bits spread flow }
 {
     let known = Wall::known_bits(bits);
     let valid = spreads::valid(bits, spread);
     let within = spreads::below(bits, flow);
     if !known {
-        return Answer::refused(3);
+        return Err(Refusal::BadBits);
     }
     if !valid {
-        return Answer::refused(15);
+        return Err(Refusal::BadSpread);
     }
     if !within {
-        return Answer::refused(8);
+        return Err(Refusal::NoFlow);
     }
-    Answer::done(spreads::slot_of(bits, spread, flow))
+    Ok(spreads::slot_of(bits, spread, flow))
 }

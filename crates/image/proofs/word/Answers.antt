@@ -1,8 +1,10 @@
-use Rattle.image.proofs.Laws.{inside, outside}
+use borrow.Author.Rules.{rules}
+use native.Mathlib.Omega.{arith}
+use Rattle.image.proofs.Laws.{read, outside}
 use Rattle.image.proofs.word.Goals as goal
 
-pub returns-then-n-bytes : goal.returns-then-n-bytes
-returns-then-n-bytes c = cc (inside c.args.bytes.now c.args.n c.if-n-bytes.true)
+pub returns-then-n-words : goal.returns-then-n-words
+returns-then-n-words c = search (rules, read)
 
-pub returns : goal.returns
-returns c = cc (outside c.args.bytes.now c.args.n c.if-n-bytes.false)
+pub returns-else-n-words : goal.returns-else-n-words
+returns-else-n-words c = cc (outside c.args.bytes.now c.args.n (omega (arith, c.as_chunks.ensures.front_len)))
