@@ -13,15 +13,13 @@ use Rattle.model.specs.Walls.{Header, full_word, with_totals, buckets_in, bucket
 use Rattle.model.specs.Calls.{Refusal, refuse, first_met, outcome, Ask, asked, sized_refusals, raise_refusals, raise, close_refusals, close}
 use Rattle.model.proofs.Tools.{to_not-not, and_tests}
 use Rattle.model.proofs.Slots.{spread-fits}
-use Rattle.model.proofs.Headers.{of_good}
-use Rattle.model.proofs.Headers as model
+use Rattle.model.proofs.Headers.{good_of}
 use Rattle.model.proofs.Refusals.{first-met, first-skip, first_clear, answer_done, refused_as}
 use Rattle.layout.specs.declared.Wall.{Wall}
 use Rattle.layout.specs.Views.{header_of}
 use Rattle.layout.proofs.Refused.{asked_bounds}
-use Rattle.header.specs.declared.Opened.TheVariants.{Good}
-use Rattle.header.specs.Headers.{opened_of, Known}
-use Rattle.header.proofs.Opening.{opened, good-known}
+use Rattle.header.specs.Headers.{fields_of, Known}
+use Rattle.header.proofs.Opening.{good-known}
 use Rattle.fresh.specs.Raise.{raise_sized}
 
 -- ---- the words
@@ -144,18 +142,17 @@ pub close_7 : (ws : List ℕ) → T (not (good ws)) → record { number = 7; val
 unfolding close
 close_7 ws t = sym (ap (λ n. outcome n 0 (fresh (read_header ws)) ws) (first-met [] (refuse 7 (not (good ws))) [] tt t))
 
-pub close_0 : (ws : List ℕ) → model.Good ws → record { number = 0; value = 0; words = fresh (read_header ws) } ≡ close ws
+close_0 : (ws : List ℕ) → T (good ws) → record { number = 0; value = 0; words = fresh (read_header ws) } ≡ close ws
 unfolding close
-close_0 ws g = sym (answer_done 0 (fresh (read_header ws)) ws (first_met (close_refusals ws)) (first_clear (close_refusals ws) (to_not-not (good ws) (of_good ws g), tt)))
+close_0 ws g = sym (answer_done 0 (fresh (read_header ws)) ws (first_met (close_refusals ws)) (first_clear (close_refusals ws) (to_not-not (good ws) g, tt)))
 
--- an opened header has what writing a fresh wall asks
-pub opened_writes : (ws : List ℕ) (v : Wall) → Good v ≡ opened_of ws → Known v × (v.full ≤ 4096) × (v.spread < 2 ^ 32) × (length ws ≡ wall_size (header_of v))
-opened_writes ws v e =
-    let o = opened ws v e in
-    subst (λ (v : Wall). Known v × (v.full ≤ 4096) × (v.spread < 2 ^ 32) × (length ws ≡ wall_size (header_of v))) (sym o.0)
-    (good-known ws o.1, o.1.limits.full_most, spread-fits (read_header ws).bits (read_header ws).spread o.1.limits.bits_high o.1.limits.spread-valid, o.1.exact)
+-- a good header has what writing a fresh wall asks
+pub opened_writes : (ws : List ℕ) (v : Wall) → v ≡ fields_of ws → T (good ws) → Known v × (v.full ≤ 4096) × (v.spread < 2 ^ 32) × (length ws ≡ wall_size (header_of v))
+opened_writes ws v e t =
+    let g = good_of ws t in
+    subst (λ (v : Wall). Known v × (v.full ≤ 4096) × (v.spread < 2 ^ 32) × (length ws ≡ wall_size (header_of v))) (sym e)
+    (good-known ws g, g.limits.full_most, spread-fits (read_header ws).bits (read_header ws).spread g.limits.bits_high g.limits.spread-valid, g.exact)
 
-pub opened_closes : (ws : List ℕ) (v : Wall) → Good v ≡ opened_of ws → record { number = 0; value = 0; words = fresh (header_of v) } ≡ close ws
-opened_closes ws v e =
-    let o = opened ws v e in
-    ap (λ (v : Wall). record { number = 0; value = 0; words = fresh (header_of v) }) o.0 ∙ close_0 ws o.1
+pub opened_closes : (ws : List ℕ) (v : Wall) → v ≡ fields_of ws → T (good ws) → (us : List ℕ) → us ≡ fresh (header_of v) → record { number = 0; value = 0; words = us } ≡ close ws
+opened_closes ws v e t us f =
+    ap (λ us. record { number = 0; value = 0; words = us }) (f ∙ ap (λ (v : Wall). fresh (header_of v)) e) ∙ close_0 ws t

@@ -1,7 +1,7 @@
 #![tactic(auto)]
 
 ghost use Rattle.std.specs.Prelude.{◌≡◌, ◌≤◌, ◌<◌, ◌^◌, length};
-ghost use Rattle.answer.specs.Answers.{outcome_of};
+ghost use Rattle.answer.specs.Answers.{outcome_of, answer_of};
 ghost use Rattle.model.specs.Calls as model;
 ghost use Rattle.model.specs.Calls.{ask};
 ghost use Rattle.model.specs.Walls.{fresh, wall_size};
@@ -9,8 +9,7 @@ ghost use Rattle.layout.specs.Views.{header_of};
 ghost use Rattle.header.specs.Headers.{Known};
 ghost use Rattle.fresh.specs.Raise.{raise_sized};
 
-use answer::Answer;
-use header::Opened;
+use answer::Refusal;
 use layout::Wall;
 
 // The fresh wall of a header, whatever stood in the words. `raise_sized` and `close` show what it asks.
@@ -29,26 +28,26 @@ fn write(words: &mut [u64], v: Wall)
 }
 
 // The header that was asked for, judged to its end: 4, 5, and then both of 15 and 6 are asked, and the ifs say their order. `raise` shows what this asks.
-fn raise_sized(words: &mut [u64], v: Wall) -> Answer
+fn raise_sized(words: &mut [u64], v: Wall) -> Result<u64, Refusal>
     requires { Known v }
-    ensures { outcome_of result words.new ≡ raise_sized (header_of v) words.old }
+    ensures { outcome_of (answer_of result) words.new ≡ raise_sized (header_of v) words.old }
 {
     if !header::limit_fits(v) {
-        return Answer::refused(4);
+        return Err(Refusal::BadLimit);
     }
     if !header::full_fits(v) {
-        return Answer::refused(5);
+        return Err(Refusal::BadFull);
     }
     let valid = spreads::valid(v.bits, v.spread);
     let exact = words.len() as u64 == header::size(v);
     if !valid {
-        return Answer::refused(15);
+        return Err(Refusal::BadSpread);
     }
     if !exact {
-        return Answer::refused(6);
+        return Err(Refusal::BadLength);
     }
     write(words, v);
-    Answer::done(0)
+    Ok(0)
 }
 
 // A fresh wall in the words lent.
@@ -60,17 +59,17 @@ pub fn raise(
     limit: u64,
     full: u64,
     spread: u64,
-) -> Answer
-    ensures { outcome_of result words.new ≡ model.raise (ask shape width bits limit full spread) words.old }
+) -> Result<u64, Refusal>
+    ensures { outcome_of (answer_of result) words.new ≡ model.raise (ask shape width bits limit full spread) words.old }
 {
     if !Wall::known_shape(shape) {
-        return Answer::refused(1);
+        return Err(Refusal::BadShape);
     }
     if Wall::MAX_WIDTH < width {
-        return Answer::refused(2);
+        return Err(Refusal::BadWidth);
     }
     if !Wall::known_bits(bits) {
-        return Answer::refused(3);
+        return Err(Refusal::BadBits);
     }
     let v = Wall {
         shape,
@@ -86,12 +85,10 @@ pub fn raise(
 }
 
 // The interval ends: the fresh wall of the same header.
-pub fn close(words: &mut [u64]) -> Answer
-    ensures { outcome_of result words.new ≡ model.close words.old }
+pub fn close(words: &mut [u64]) -> Result<u64, Refusal>
+    ensures { outcome_of (answer_of result) words.new ≡ model.close words.old }
 {
-    let Opened::Good(v) = header::open(words) else {
-        return Answer::refused(7);
-    };
+    let v = header::open(words).ok_or(Refusal::BadHeader)?.header;
     write(words, v);
-    Answer::done(0)
+    Ok(0)
 }

@@ -7,9 +7,6 @@ use lib.Dec.{T}
 use Rattle.model.specs.Shapes.{known_shape, width_asked}
 use Rattle.model.specs.Slots.{known_bits}
 use Rattle.model.specs.Calls.{Outcome, ask, raise}
-use Rattle.answer.specs.declared.Answer.{Answer}
-use Rattle.answer.specs.Answers.{reply_of, outcome_of}
-use Rattle.answer.proofs.Said.{said}
 use Rattle.layout.proofs.Tests.{passed, failed}
 use Rattle.layout.specs.Views.{header_of}
 use Rattle.header.specs.Headers.{Known}
@@ -20,19 +17,19 @@ use Rattle.fresh.proofs.raise.Goals as goal
 
 -- known is what the code found of the shape s, and fits of the bits b
 module _ (ws : List ℕ) (s w b l f m : ℕ) (known : Bool) (shapes : known ≡ known_shape s) where
-  refused_1 : (r : Answer) → reply_of r ≡ record { number = 1; value = 0 } → known ≡ false → outcome_of r ws ≡ raise (ask s w b l f m) ws
-  refused_1 r e z = said r 1 0 ws e ∙ raise_1 (ask s w b l f m) ws (failed known (known_shape s) shapes (not_from_false known z))
+  refused_1 : known ≡ false → record { number = 1; value = 0; words = ws } ≡ raise (ask s w b l f m) ws
+  refused_1 z = raise_1 (ask s w b l f m) ws (failed known (known_shape s) shapes (not_from_false known z))
 
   module _ (k : known ≡ true) where
     shape : T (known_shape s)
     shape = passed known (known_shape s) shapes (not_from_true known k)
 
-    refused_2 : (r : Answer) → reply_of r ≡ record { number = 2; value = 0 } → 16 < w → outcome_of r ws ≡ raise (ask s w b l f m) ws
-    refused_2 r e z = said r 2 0 ws e ∙ raise_2 (ask s w b l f m) ws shape z
+    refused_2 : 16 < w → record { number = 2; value = 0; words = ws } ≡ raise (ask s w b l f m) ws
+    refused_2 z = raise_2 (ask s w b l f m) ws shape z
 
     module _ (narrow : w ≤ 16) (fits : Bool) (bits : fits ≡ known_bits b) where
-      refused_3 : (r : Answer) → reply_of r ≡ record { number = 3; value = 0 } → fits ≡ false → outcome_of r ws ≡ raise (ask s w b l f m) ws
-      refused_3 r e z = said r 3 0 ws e ∙ raise_3 (ask s w b l f m) ws shape narrow (failed fits (known_bits b) bits (not_from_false fits z))
+      refused_3 : fits ≡ false → record { number = 3; value = 0; words = ws } ≡ raise (ask s w b l f m) ws
+      refused_3 z = raise_3 (ask s w b l f m) ws shape narrow (failed fits (known_bits b) bits (not_from_false fits z))
 
       -- u is the width as it is used
       module _ (t : fits ≡ true) (u : ℕ) (wide : u ≡ width_asked w) where
