@@ -1,5 +1,5 @@
 -- Bucket i of an open wall where it lies: what is said of its words is said of the model's bucket.
-use mathlib.Core.Path.{◌≡◌, refl, sym, ap, ap₂, ◌∙◌, subst, subst₂}
+use mathlib.Core.Path.{◌≡◌, refl, sym, ap, ap₂, ◌∙◌, subst}
 use mathlib.Core.Bool.{Bool, true, false, not}
 use mathlib.Core.List.{List}
 use Prim.Native.Nat.{ℕ, zero, suc, ◌+◌, ◌-◌, ◌*◌, ◌/◌, ◌%◌, ◌^◌, ◌≤◌, ◌<◌}
@@ -10,7 +10,8 @@ use lib.ListN.{length, get_or, take, drop}
 use lib.Pow.{shr-shr}
 use Rattle.std.specs.Prelude.{Option, Some, None}
 use Rattle.model.specs.Lists.{sum, by_mark}
-use Rattle.model.specs.Shapes.{rows_of, bucket_size}
+use Rattle.model.specs.Shapes as shapes
+use Rattle.model.specs.Shapes.{bucket_size}
 use Rattle.model.specs.Walls.{Bucket, Full, Header, buckets_in, bucket_length, read_bucket, empty_full, parse}
 use Rattle.model.specs.Sound.{bucket_at, full_for, flag, full_number, own_counts, bucket_counts, counts_at, sound_bucket, sound_at}
 use Rattle.model.proofs.Buckets.{SoundB, bucket_facts, counts-none, length-own}
@@ -20,18 +21,22 @@ use Rattle.uppers.specs.Judge.{verdict}
 use Rattle.moves.specs.Full.{full_at}
 use Rattle.uppers.proofs.Verdicts.{said-sound, said-not, say_not}
 use Rattle.uppers.specs.Uppers.{rows_by, Ahead}
-use Rattle.plain.specs.Plain.{bucket_in, SaysSound, Weighs}
+use Rattle.plain.specs.Plain.{bucket_in, bucket_of, own_of, packed_of, rows_of, SaysSound, Weighs}
 use Rattle.plain.proofs.Views as views
 use Rattle.plain.proofs.Table.{rows3, rows4, rows5, ahead3, ahead4, ahead5}
-use Rattle.fulls.specs.Fulls.{Judges, own_in}
+use Rattle.plain.specs.declared.site.Site.{Site}
+use Rattle.fulls.specs.declared.flagged.Flagged.{Flagged}
+use Rattle.fulls.specs.Fulls.{Judges, full_of}
+use Rattle.header.specs.declared.Opened.{Opened}
+use Rattle.found.specs.Found.{Lies, LiesFull}
 use Rattle.header.specs.Headers.{Known, Open}
 use Rattle.shapes.specs.Shapes.{entry_bytes, width_bytes}
 use Rattle.header.proofs.Opening.{length_of_bucket}
-use Rattle.header.proofs.Places.{open_known, open_limits, open_header, bucket-within, bucket-here, full-within, full-here}
+use Rattle.header.proofs.Places.{opened, open_known, open_limits, open_header, bucket-within, bucket-here, full-within, full-here}
 
 -- ---- the table's rows as bytes
 
-pub rows-bytes : (p : ℕ) → 3 ≤ p → p ≤ 5 → rows_by (p - 1) (entry_bytes p) (width_bytes p) ≡ rows_of p
+pub rows-bytes : (p : ℕ) → 3 ≤ p → p ≤ 5 → rows_by (p - 1) (entry_bytes p) (width_bytes p) ≡ shapes.rows_of p
 rows-bytes zero h k = absurd (omega arith)
 rows-bytes (suc zero) h k = absurd (omega arith)
 rows-bytes (suc (suc zero)) h k = absurd (omega arith)
@@ -103,98 +108,110 @@ module _ (ws : List ℕ) (v : Wall) (o : Open ws v) (i : ℕ) (h : i < buckets_i
   pub number-few : (q : ℕ) → q < v.used → q < 4096
   number-few q l = omega (arith, (open_limits ws v o).spare_full, (open_limits ws v o).full_most)
 
-  -- ---- where it lies, with the bytes of its shape
+  -- ---- the site
 
-  module _ (e s at : ℕ) (qe : e ≡ entry_bytes v.shape) (qs : s ≡ width_bytes v.shape) (q : at ≡ 4 + i * bucket_length (header_of v)) where
-    rows : rows_by n e s ≡ rows_of v.shape
-    rows = ap₂ (rows_by n) qe qs ∙ rows-bytes v.shape k.shape_low k.shape_high
+  abbrev w_at : ℕ
+  w_at = 4 + i * bucket_length (header_of v)
 
-    ahead : Ahead n e s v.width
-    ahead = subst₂ (λ x y. Ahead n x y v.width) (sym qe) (sym qs) (ahead_bytes v.shape v.width k.shape_low k.shape_high k.width_high)
+  rows : rows_by n (entry_bytes v.shape) (width_bytes v.shape) ≡ shapes.rows_of v.shape
+  rows = rows-bytes v.shape k.shape_low k.shape_high
 
-    last_within : at + v.width + 1 + n < length ws
-    last_within = omega (arith, bucket-within ws v o i h, length_of_bucket v k, k.shape_low)
+  pub ahead : Ahead n (entry_bytes v.shape) (width_bytes v.shape) v.width
+  ahead = ahead_bytes v.shape v.width k.shape_low k.shape_high k.width_high
 
-    pub asks : Ahead n e s v.width × (1 ≤ n) × (n ≤ 4) × (1 ≤ v.width) × (v.width ≤ 16) × (at + v.width + 1 + n < length ws)
-    asks = (ahead, omega (arith, k.shape_low), omega (arith, k.shape_high), k.width_low, k.width_high, last_within)
+  pub within : w_at + v.width + 1 + n < length ws
+  within = omega (arith, bucket-within ws v o i h, length_of_bucket v k, k.shape_low)
 
-    here : bucket_in v.width n e s ws at ≡ b
-    here =
-        ap (λ a. bucket_in v.width n e s ws a) q
-        ∙ ap (λ rs. read_bucket v.width rs (take (bucket_size v.width rs) (drop (4 + i * bucket_length (header_of v)) ws))) rows
-        ∙ bucket-here ws v o i h
+  here : bucket_in v.width n (entry_bytes v.shape) (width_bytes v.shape) ws w_at ≡ b
+  here = ap (λ rs. read_bucket v.width rs (take (bucket_size v.width rs) (drop w_at ws))) rows ∙ bucket-here ws v o i h
 
-    packed-at : get_or ws (at + v.width + 1 + n) 0 ≡ b.packed
-    packed-at = sym (ap (λ (x : Bucket). x.packed) (views.bucket-here v.width n e s ws at)) ∙ ap (λ (x : Bucket). x.packed) here
+  packed-here : get_or ws (w_at + v.width + 1 + n) 0 ≡ b.packed
+  packed-here =
+      sym (ap (λ (x : Bucket). x.packed) (views.bucket-here v.width n (entry_bytes v.shape) (width_bytes v.shape) ws w_at)) ∙ ap (λ (x : Bucket). x.packed) here
 
-    own-at : own_in v.width n e s ws at ≡ own_counts (parse ws).header.width (parse ws).header.rows b
-    own-at =
-        ap₂ (λ rs x. own_counts v.width rs x) rows here
-        ∙ ap (λ (y : Header). own_counts y.width y.rows b) (open_header ws v o)
+  own : own_counts v.width (rows_by n (entry_bytes v.shape) (width_bytes v.shape)) (bucket_in v.width n (entry_bytes v.shape) (width_bytes v.shape) ws w_at)
+      ≡ own_counts (parse ws).header.width (parse ws).header.rows b
+  own = ap₂ (λ rs x. own_counts v.width rs x) rows here ∙ ap (λ (y : Header). own_counts y.width y.rows b) (open_header ws v o)
 
-    sound-at : (f : Full) → f ≡ full_for (parse ws) i → sound_bucket v.width (rows_by n e s) v.total v.used (bucket_in v.width n e s ws at) f ≡ sound_at (parse ws) i
-    unfolding sound_at
-    sound-at f z =
-        ap₂ (λ rs x. sound_bucket v.width rs v.total v.used x f) rows here
-        ∙ ap (λ (y : Header). sound_bucket y.width y.rows y.total y.used b f) (open_header ws v o)
-        ∙ ap (sound_bucket (parse ws).header.width (parse ws).header.rows (parse ws).header.total (parse ws).header.used b) z
+  sound-here : (f : Full) → f ≡ full_for (parse ws) i
+      → sound_bucket v.width (rows_by n (entry_bytes v.shape) (width_bytes v.shape)) v.total v.used (bucket_in v.width n (entry_bytes v.shape) (width_bytes v.shape) ws w_at) f
+      ≡ sound_at (parse ws) i
+  unfolding sound_at
+  sound-here f z =
+      ap₂ (λ rs x. sound_bucket v.width rs v.total v.used x f) rows here
+      ∙ ap (λ (y : Header). sound_bucket y.width y.rows y.total y.used b f) (open_header ws v o)
+      ∙ ap (sound_bucket (parse ws).header.width (parse ws).header.rows (parse ws).header.total (parse ws).header.used b) z
 
-    counts-at : (f : Full) → f ≡ full_for (parse ws) i → bucket_counts (own_in v.width n e s ws at) f ≡ counts_at (parse ws) i
+  -- the full-size bucket of number x / 2 ^ 48
+  pub full-room : (q : ℕ) → q < v.used → 4 + (buckets_in (header_of v) * bucket_length (header_of v) + q * 65) + 65 ≤ length ws
+  full-room q l = omega (arith, full-within ws v o q (le_trans l (open_limits ws v o).spare_full))
+
+-- ---- at a site: what its functions say is said of the model's bucket
+
+module _ (w : Opened) (i : ℕ) (h : i < buckets_in (header_of w.header)) where
+  abbrev ws : List ℕ
+  ws = w.words.now
+
+  abbrev its : Option ℕ
+  its = said ws w.header (opened w) i h
+
+  module _ (s : Site) (q : Lies w i s) where
+    pub packed-at : packed_of s ≡ (bucket_at (parse ws) i).packed
+    packed-at = rw (q.words, q.at, q.shape) (packed-here ws w.header (opened w) i h)
+
+    own-at : own_of s ≡ own_counts (parse ws).header.width (parse ws).header.rows (bucket_at (parse ws) i)
+    own-at = rw (q.words, q.at, q.shape) (own ws w.header (opened w) i h)
+
+    sound-at : (f : Full) → f ≡ full_for (parse ws) i → sound_bucket s.shape.width (rows_of s) w.header.total w.header.used (bucket_of s) f ≡ sound_at (parse ws) i
+    sound-at f z = rw (q.words, q.at, q.shape) (sound-here ws w.header (opened w) i h f z)
+
+    counts-at : (f : Full) → f ≡ full_for (parse ws) i → bucket_counts (own_of s) f ≡ counts_at (parse ws) i
     unfolding counts_at
     counts-at f z = ap₂ bucket_counts own-at z
 
-    module _ (x : ℕ) (qx : x ≡ b.packed) where
-      -- marks alone
-      module _ (none : x / 2 ^ 40 ≤ 0) where
-        pub packed-low : get_or ws (at + v.width + 1 + n) 0 < 2 ^ 40
-        packed-low = omega (arith, packed-at, qx)
+    -- marks alone
+    module _ (x : ℕ) (qx : x ≡ (bucket_at (parse ws) i).packed) (none : x / 2 ^ 40 ≤ 0) where
+      pub packed-low : packed_of s < 2 ^ 40
+      packed-low = omega (arith, packed-at, qx)
 
-        no_flag : empty_full ≡ full_for (parse ws) i
-        no_flag = let z : flag b ≡ 0 = ap (λ y. y / 2 ^ 40 % 2) (sym qx) ∙ omega arith in sym (ap (λ m. by_mark m empty_full (get_or (parse ws).fulls (full_number b) empty_full)) z)
+      no_flag : empty_full ≡ full_for (parse ws) i
+      no_flag =
+          let b : Bucket = bucket_at (parse ws) i in
+          let z : flag b ≡ 0 = ap (λ y. y / 2 ^ 40 % 2) (sym qx) ∙ omega arith in
+          sym (ap (λ m. by_mark m empty_full (get_or (parse ws).fulls (full_number b) empty_full)) z)
 
-        own-counts : own_in v.width n e s ws at ≡ counts_at (parse ws) i
-        own-counts = sym (counts-none (own_in v.width n e s ws at) (length-own v.width (rows_by n e s) (bucket_in v.width n e s ws at))) ∙ counts-at empty_full no_flag
+      own-counts : own_of s ≡ counts_at (parse ws) i
+      own-counts = sym (counts-none (own_of s) (length-own s.shape.width (rows_of s) (bucket_of s))) ∙ counts-at empty_full no_flag
 
-        pub plain-sound : (r : Bool) → SaysSound v.width n e s ws at v.total r → r ≡ sound_at (parse ws) i
-        plain-sound r z = z v.used ∙ sound-at empty_full no_flag
+      pub plain-sound : (r : Bool) → SaysSound s w.header.total r → r ≡ sound_at (parse ws) i
+      plain-sound r z = z w.header.used ∙ sound-at empty_full no_flag
 
-        pub plain_weighed : (r : Option ℕ) → Weighs v.width n e s ws at v.total r → r ≡ said
-        plain_weighed r z = z v.used ∙ ap₂ verdict (sound-at empty_full no_flag) (ap sum own-counts)
+      pub plain_weighed : (r : Option ℕ) → Weighs s w.header.total r → r ≡ its
+      plain_weighed r z = z w.header.used ∙ ap₂ verdict (sound-at empty_full no_flag) (ap sum own-counts)
 
-        pub plain-count : (a r : ℕ) → r ≡ get_or (own_in v.width n e s ws at) a 0 → r ≡ get_or (counts_at (parse ws) i) a 0
-        plain-count a r z = z ∙ ap (λ (l : List ℕ). get_or l a 0) own-counts
+      pub plain-count : (a r : ℕ) → r ≡ get_or (own_of s) a 0 → r ≡ get_or (counts_at (parse ws) i) a 0
+      plain-count a r z = z ∙ ap (λ (l : List ℕ). get_or l a 0) own-counts
 
-      -- the flag, and a number in use
-      module _ (one : x / 2 ^ 40 % 256 ≡ 1) (num : x / 2 ^ 48 < v.used) (f : ℕ) (p : f ≡ 4 + (buckets_in (header_of v) * bucket_length (header_of v) + x / 2 ^ 48 * 65)) where
-        in_full : x / 2 ^ 48 < v.full
-        in_full = le_trans num (open_limits ws v o).spare_full
+  -- the flag, and a number in use
+  module _ (x : ℕ) (qx : x ≡ (bucket_at (parse ws) i).packed) (one : x / 2 ^ 40 % 256 ≡ 1) (num : x / 2 ^ 48 < w.header.used) (f : Flagged) (q : LiesFull w i (x / 2 ^ 48) f) where
+    its_full : full_of f ≡ full_for (parse ws) i
+    its_full =
+        let b : Bucket = bucket_at (parse ws) i in
+        let z : flag b ≡ 1 = ap (λ y. y / 2 ^ 40 % 2) (sym qx) ∙ omega arith in
+        ap₂ full_at q.site.words q.full ∙ full-here ws w.header (opened w) (x / 2 ^ 48) (le_trans num (open_limits ws w.header (opened w)).spare_full)
+        ∙ ap (λ y. get_or (parse ws).fulls (y / 2 ^ 48) empty_full) qx
+        ∙ sym (ap (λ m. by_mark m empty_full (get_or (parse ws).fulls (full_number b) empty_full)) z)
 
-        pub full-room : f + 65 ≤ length ws
-        full-room = omega (arith, full-within ws v o (x / 2 ^ 48) in_full)
+    pub packed_one : packed_of f.site / 2 ^ 40 % 256 ≡ 1
+    packed_one = ap (λ y. y / 2 ^ 40 % 256) (packed-at f.site q.site ∙ sym qx) ∙ one
 
-        its_full : full_at ws f ≡ full_for (parse ws) i
-        its_full =
-            let z : flag b ≡ 1 = ap (λ y. y / 2 ^ 40 % 2) (sym qx) ∙ omega arith in
-            ap (full_at ws) p ∙ full-here ws v o (x / 2 ^ 48) in_full ∙ ap (λ y. get_or (parse ws).fulls (y / 2 ^ 48) empty_full) qx
-            ∙ sym (ap (λ m. by_mark m empty_full (get_or (parse ws).fulls (full_number b) empty_full)) z)
+    pub flagged-judged : (r : Option ℕ) → Judges f w.header.total r → r ≡ its
+    flagged-judged r z =
+        z w.header.used (subst (λ y. y / 2 ^ 48 < w.header.used) (qx ∙ sym (packed-at f.site q.site)) num)
+        ∙ ap₂ verdict (sound-at f.site q.site (full_of f) its_full) (ap sum (counts-at f.site q.site (full_of f) its_full))
 
-        pub packed_one : get_or ws (at + v.width + 1 + n) 0 / 2 ^ 40 % 256 ≡ 1
-        packed_one = ap (λ y. y / 2 ^ 40 % 256) (packed-at ∙ sym qx) ∙ one
-
-        pub flagged-judged : (r : Option ℕ) → Judges v.width n e s ws at f v.total r → r ≡ said
-        flagged-judged r z =
-            z v.used (subst (λ y. y / 2 ^ 48 < v.used) (qx ∙ sym packed-at) num)
-            ∙ ap₂ verdict (sound-at (full_at ws f) its_full) (ap sum (counts-at (full_at ws f) its_full))
-
-        pub flagged-count : (a r : ℕ) → r ≡ get_or (bucket_counts (own_in v.width n e s ws at) (full_at ws f)) a 0 → r ≡ get_or (counts_at (parse ws) i) a 0
-        flagged-count a r z = z ∙ ap (λ (l : List ℕ). get_or l a 0) (counts-at (full_at ws f) its_full)
-
-  -- the packed word itself
-  pub packed_read : (at : ℕ) → at ≡ 4 + i * bucket_length (header_of v) → get_or ws (at + v.width + 1 + n) 0 ≡ b.packed
-  packed_read at q = packed-at (entry_bytes v.shape) (width_bytes v.shape) at refl refl q
-
-  pub packed-within : (at : ℕ) → at ≡ 4 + i * bucket_length (header_of v) → at + v.width + 1 + n < length ws
-  packed-within at q = last_within (entry_bytes v.shape) (width_bytes v.shape) at refl refl q
+    pub flagged-count : (a r : ℕ) → r ≡ get_or (bucket_counts (own_of f.site) (full_of f)) a 0 → r ≡ get_or (counts_at (parse ws) i) a 0
+    flagged-count a r z = z ∙ ap (λ (l : List ℕ). get_or l a 0) (counts-at f.site q.site (full_of f) its_full)
 
 -- ---- a verdict with another number
 

@@ -21,8 +21,14 @@ use Rattle.layout.specs.declared.Wall as layout
 use Rattle.shapes.specs.Shapes.{shape_of, rows_in}
 use Rattle.layout.specs.Views.{header_of}
 use Rattle.shapes.proofs.Shapes.{table_rows, counter-sum, widths_of}
+use Rattle.header.specs.declared.Opened.{Opened}
 use Rattle.header.specs.Headers.{Known, Open}
 use Rattle.header.proofs.Opening.{good-known}
+
+-- ---- what an opened wall is
+
+abbrev pub opened : (w : Opened) → Open w.words.now w.header
+opened w = record { fields = w.fields; good = w.good }
 
 -- i of n pieces of m words, and the next
 pub piece_within : (i n m : ℕ) → i < n → i * m + m ≤ n * m

@@ -1,32 +1,9 @@
 use native.Mathlib.Omega.{arith}
-use Rattle.header.proofs.Places.{open_known}
-use Rattle.found.proofs.Here.{asks, packed-low, plain_weighed}
+use Rattle.found.proofs.Here.{packed-low, plain_weighed}
 use Rattle.found.proofs.weigh.Goals as goal
 
-pub bucket_at-requires : goal.bucket_at-requires
-bucket_at-requires c = (open_known _ _ c.requires.0, c.requires.1)
-
-pub overflow_sub-v : goal.overflow_sub-v
-overflow_sub-v c = omega (arith, (open_known _ _ c.requires.0).shape_low)
-
-pub entries_of-requires : goal.entries_of-requires
-entries_of-requires c =
-    let k = open_known _ _ c.requires.0 in
-    (k.shape_low, k.shape_high)
-
-pub widths_of-requires : goal.widths_of-requires
-widths_of-requires c =
-    let k = open_known _ _ c.requires.0 in
-    (k.shape_low, k.shape_high)
-
 pub weigh-requires : goal.weigh-requires
-weigh-requires c =
-    let z = asks _ _ c.requires.0 _ c.requires.1 _ _ _ c.entries_of.ensures c.widths_of.ensures c.bucket_at.ensures in
-    let low = packed-low _ _ c.requires.0 _ c.requires.1 _ _ _ c.entries_of.ensures c.widths_of.ensures c.bucket_at.ensures
-    _ c.packed_word-packed.ensures c.if-packed-gt0.false in
-    (z.0, z.1, z.2, z.3, z.4, z.5, low)
+weigh-requires c = packed-low c.args.wall.now c.args.i c.requires c.site.result c.site.ensures _ c.packed_word-packed.ensures (omega arith)
 
 pub returns : goal.returns
-returns c =
-    plain_weighed _ _ c.requires.0 _ c.requires.1 _ _ _ c.entries_of.ensures c.widths_of.ensures c.bucket_at.ensures
-    _ c.packed_word-packed.ensures c.if-packed-gt0.false _ c.weigh.ensures
+returns c = plain_weighed c.args.wall.now c.args.i c.requires c.site.result c.site.ensures _ c.packed_word-packed.ensures (omega arith) _ c.weigh.ensures
