@@ -1,24 +1,15 @@
-use borrow.Author.Rules.{rules}
 use mathlib.Core.Path.{◌≡◌}
 use Prim.Native.Nat.{◌+◌, ◌-◌}
-use Rattle.growth.proofs.Coming.{going, level-here, bits-here, entry_64, shift_asks, put_asks, made_last, made_stop, going_on}
+use Rattle.growth.proofs.Coming.{level-here, bits-here, entry_64, shift_asks, put_asks, made_last, made_stop, going_on}
 use lib.Dec.{lit<}
 use native.Mathlib.Omega.{arith}
 use Rattle.growth.proofs.Upper.grow.Goals as goal
-
-pub loop-j-init : goal.loop-j-init
-loop-j-init c =
-    let n : c.args.j0 + c.args.levels - 1 + 1 - c.args.j0 ≡ c.args.levels = omega (arith, c.requires.stands.some) in
-    rw n (going c.requires (search rules))
 
 pub width_at-w-requires : goal.width_at-w-requires
 width_at-w-requires c = omega (arith, (level-here c.loop-j.invariant.comes.stands).index)
 
 pub entries_at-k-requires : goal.entries_at-k-requires
 entries_at-k-requires c = omega (arith, (level-here c.loop-j.invariant.comes.stands).index)
-
-pub overflow_shr-m : goal.overflow_shr-m
-overflow_shr-m c = omega (arith, (bits-here c.loop-j.invariant.comes.stands (omega arith)).0)
 
 pub pow2-requires : goal.pow2-requires
 pow2-requires c = omega (arith, (bits-here c.loop-j.invariant.comes.stands (omega arith)).1, c.entries_at-k.ensures.0)
@@ -42,9 +33,6 @@ shift-self-requires c = shift_asks c.loop-j.invariant (omega arith) 1 (lit< tt) 
 
 pub rank-a-requires : goal.rank-a-requires
 rank-a-requires c = entry_64 c.loop-j.invariant.comes
-
-pub overflow_add-off : goal.overflow_add-off
-overflow_add-off c = omega (arith, (bits-here c.loop-j.invariant.comes.stands (omega arith)).0, c.entries_at-k.ensures.0)
 
 pub loop-j-preserved : goal.loop-j-preserved
 loop-j-preserved c =

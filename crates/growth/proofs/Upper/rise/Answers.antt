@@ -1,15 +1,9 @@
-use borrow.Author.Rules.{rules}
-use Rattle.growth.proofs.Climbing.{climbing, entry_in, entry_64, replace_asks, replace_last, made_last, made_stop, grows, made_in, climbing_on}
+use Rattle.growth.proofs.Climbing.{entry_in, entry_64, replace_asks, replace_last, made_last, made_stop, grows, made_in, climbing_on}
 use Rattle.growth.proofs.Coming.{level-here, bits-here}
 use mathlib.Core.Path.{◌≡◌, sym, ◌∙◌}
 use Prim.Native.Nat.{◌+◌, ◌-◌}
 use native.Mathlib.Omega.{arith}
 use Rattle.growth.proofs.Upper.rise.Goals as goal
-
-pub loop-j-init : goal.loop-j-init
-loop-j-init c =
-    let n : c.args.shape.uppers - 1 + 1 - 0 ≡ c.args.shape.uppers = omega (arith, c.requires.stands.some) in
-    rw n (climbing c.requires (search rules))
 
 pub width_at-w-requires : goal.width_at-w-requires
 width_at-w-requires c = omega (arith, (level-here c.loop-j.invariant.rises.stands).index)
@@ -29,9 +23,6 @@ returns-then-v-eq0 c = made_stop c.loop-j.invariant (omega arith) c.width_at-w.r
 pub entries_at-k-requires : goal.entries_at-k-requires
 entries_at-k-requires c = omega (arith, (level-here c.loop-j.invariant.rises.stands).index)
 
-pub overflow_shr-m : goal.overflow_shr-m
-overflow_shr-m c = omega (arith, (bits-here c.loop-j.invariant.rises.stands (omega arith)).0)
-
 pub pow2-requires-in-loop-j : goal.pow2-requires-in-loop-j
 pow2-requires-in-loop-j c = omega (arith, (bits-here c.loop-j.invariant.rises.stands (omega arith)).1, c.entries_at-k.ensures.0)
 
@@ -46,9 +37,6 @@ overflow_add-off c = omega (arith, (bits-here c.loop-j.invariant.rises.stands (o
 
 pub set_mark-requires : goal.set_mark-requires
 set_mark-requires c = omega (arith, (bits-here c.loop-j.invariant.rises.stands (omega arith)).0, entry_in c.loop-j.invariant.rises)
-
-pub overflow_add-off-then-bit-eq0 : goal.overflow_add-off-then-bit-eq0
-overflow_add-off-then-bit-eq0 c = omega (arith, (bits-here c.loop-j.invariant.rises.stands (omega arith)).0, c.entries_at-k.ensures.0)
 
 pub grow-requires : goal.grow-requires
 grow-requires c =
@@ -66,9 +54,6 @@ returns-then-bit-eq0 c =
     c.entries_at-k.result c.pow2-in-loop-j.result c.rank-next.result c.entries_at-k.ensures.0 c.pow2-in-loop-j.ensures.0 c.rank-next.ensures.0 (omega (arith, c.if-v-eq0.false))
     (sym c.bit.ensures ∙ c.if-bit-eq0.true)
     (record { words = c.replace-self.result.words; packed = c.set_mark.result }) (rw c.set_mark.ensures) c.grow.result (rw n at c.grow.ensures)
-
-pub overflow_add-off-in-loop-j : goal.overflow_add-off-in-loop-j
-overflow_add-off-in-loop-j c = omega (arith, (bits-here c.loop-j.invariant.rises.stands (omega arith)).0, c.entries_at-k.ensures.0)
 
 pub loop-j-preserved : goal.loop-j-preserved
 loop-j-preserved c =
