@@ -125,9 +125,6 @@ pub record Going (s : Shape) (left₀ j₀ o₀ : ℕ) (b₀ : Upper) (a₀ v₀
   pub makes : (r : Upper) → Grown s left j o b (entering (rows_from left s j) (levels_in left s b o j) a v) r
       → Grown s left₀ j₀ o₀ b₀ (entering (rows_from left₀ s j₀) (levels_in left₀ s b₀ o₀ j₀) a₀ v₀) r
 
-pub going : {s : Shape} {left j o : ℕ} {b : Upper} {a v : ℕ} → Comes s left j o b a v → length b.words ≡ 4 → Going s left j o b a v left j o b a v
-going k l = record { comes = k; four = l; makes = λ r g. g }
-
 -- as the code goes: w and k are what it was told of the level, p and q powers of 2 that it made of them
 
 module _ {s : Shape} {left₀ j₀ o₀ : ℕ} {b₀ : Upper} {a₀ v₀ left j o : ℕ} {b : Upper} {a v : ℕ} (g : Going s left₀ j₀ o₀ b₀ a₀ v₀ left j o b a v) where

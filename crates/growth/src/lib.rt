@@ -29,6 +29,7 @@ impl Upper {
     }
 
     // The entries of the upper level j at and above a move up by one, and the part is put in. `shift` and `grow` show what this asks.
+    // It stays apart from `replace`: one function for both would take the call of `packed` as a closure, and its clauses would say more than they do now.
     fn put_in(mut self, j: u64, w: u64, a: u64, part: u64) -> Self
         requires { (j < 4) × (w * a + w ≤ 64) × (1 ≤ w) × (w < 64) × (part < 2 ^ w) × (get_or self.words j 0 < 2 ^ (64 - w)) }
         ensures { result ≡ record { words = set self.words j (put_in w (get_or self.words j 0) a part); packed = self.packed } }
@@ -57,12 +58,11 @@ impl Upper {
         requires { Comes shape levels j0 off0 self a0 v0 }
         ensures { Grown shape levels j0 off0 self (entering (rows_from levels shape j0) (levels_in levels shape self off0 j0) a0 v0) result }
     {
-        let mut left = levels;
-        let mut j = j0;
+        let last = j0 + levels - 1;
         let mut off = off0;
         let mut a = a0;
         let mut v = v0;
-        while 1 < left {
+        for j in j0..last {
             let w = shape.width_at(j);
             let k = shape.entries_at(j);
             let m = (self.packed >> off) % packed::pow2(k);
@@ -74,11 +74,8 @@ impl Upper {
             self = self.shift(j, off, k, w, a, part, 1);
             a = packed::rank(m, a);
             off += k;
-            j += 1;
-            left -= 1;
         }
-        let w = shape.width_at(j);
-        self.put_in(j, w, a, v)
+        self.put_in(last, shape.width_at(last), a, v)
     }
 
     // The counter at entry a0 of the first upper level comes to the value v0. `raise` shows what this asks.
@@ -86,12 +83,11 @@ impl Upper {
         requires { Rises shape shape.uppers 0 0 self a0 v0 }
         ensures { Grown shape shape.uppers 0 0 self (raising (rows_in shape) (levels_in shape.uppers shape self 0 0) a0 v0) result }
     {
-        let mut left = shape.uppers;
-        let mut j: u64 = 0;
+        let last = shape.uppers - 1;
         let mut off: u64 = 0;
         let mut a = a0;
         let mut v = v0;
-        while 1 < left {
+        for j in 0..last {
             let w = shape.width_at(j);
             self = self.replace(j, w, a, v % packed::pow2(w));
             v = v >> w;
@@ -103,14 +99,11 @@ impl Upper {
             let next = packed::rank(m, a);
             if packed::bit(m, a) == 0 {
                 self.packed = packed::set_mark(self.packed, off + a);
-                return self.grow(shape, left - 1, j + 1, off + k, next, v);
+                return self.grow(shape, last - j, j + 1, off + k, next, v);
             }
             a = next;
             off += k;
-            j += 1;
-            left -= 1;
         }
-        let w = shape.width_at(j);
-        self.replace(j, w, a, v)
+        self.replace(last, shape.width_at(last), a, v)
     }
 }

@@ -53,10 +53,6 @@ pub record Trail (ws : List ℕ) (whole end at g left e w a t s : ℕ) : Type 0 
   pub low : s < 2 ^ t
   pub same : s + read_by left ws at g e w a * 2 ^ t ≡ whole
 
-pub trail : (ws : List ℕ) (at g left e w a t s : ℕ) → 1 ≤ left → left ≤ 4 → Ahead left e w t → a < 64 → s < 2 ^ t
-    → Trail ws (s + read_by left ws at g e w a * 2 ^ t) (at + left) at g left e w a t s
-trail ws at g left e w a t s h k b i l = record { some = h; few = k; place = refl; ahead = b; in_word = i; low = l; same = refl }
-
 -- the words before the last of n levels: each is there for its level, and a level is ahead of it
 module _ (ws : List ℕ) (first n i : ℕ) where
   abbrev pub below_last : List ℕ

@@ -3,7 +3,7 @@ use mathlib.Core.Path.{◌≡◌, refl, sym, ap, ◌∙◌}
 use mathlib.Core.Bool.{Bool, true, false}
 use mathlib.Core.List.{List}
 use Prim.Native.Nat.{ℕ, zero, suc, ◌+◌, ◌-◌, ◌/◌, ◌%◌, ◌^◌, ◌≤◌, ◌<◌}
-use native.Mathlib.Nat.{not-suc-le-zero, add-zero, add_assoc, zero-div}
+use native.Mathlib.Nat.{not-suc-le-zero, add_assoc, zero-div}
 use native.Mathlib.Numerals.{add-one, sub-one}
 use native.Mathlib.Omega.{arith}
 use lib.Count.{ones}
@@ -67,9 +67,6 @@ pub record Raising (n g₀ e₀ w₀ a₀ v₀ left g e w a v : ℕ) : Type 0 wh
   pub in_word : a < 64
   pub passed : ℕ
   pub same : (ws : List ℕ) (at : ℕ) → raise_by left ws (at + passed) g e w a v ≡ raise_by n ws at g₀ e₀ w₀ a₀ v₀
-
-pub raising : (n g e w a v : ℕ) → 1 ≤ n → Ahead n e w 0 → a < 64 → Raising n g e w a v n g e w a v
-raising n g e w a v h b l = record { some = h; weight = 0; ahead = b; in_word = l; passed = 0; same = λ ws at. ap (λ k. raise_by n ws k g e w a v) (add-zero at) }
 
 module _ {n g₀ e₀ w₀ a₀ v₀ left g e w a v : ℕ} (k : Raising n g₀ e₀ w₀ a₀ v₀ left g e w a v) where
   pub narrow : w % 256 ≤ 16

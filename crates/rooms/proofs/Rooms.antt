@@ -3,7 +3,7 @@ use mathlib.Core.Path.{◌≡◌, refl, sym, ap, ◌∙◌}
 use mathlib.Core.Bool.{Bool, true, false}
 use mathlib.Core.List.{List}
 use Prim.Native.Nat.{ℕ, zero, suc, ◌+◌, ◌-◌, ◌/◌, ◌%◌, ◌^◌, ◌≤◌, ◌<◌}
-use native.Mathlib.Nat.{not-suc-le-zero, add-zero, add_assoc}
+use native.Mathlib.Nat.{not-suc-le-zero, add_assoc}
 use native.Mathlib.Numerals.{add-one, sub-one}
 use native.Mathlib.Omega.{arith}
 use lib.Count.{ones}
@@ -56,9 +56,6 @@ pub record Rooming (n g₀ e₀ w₀ m₀ v₀ left g e w m v : ℕ) : Type 0 wh
   pub few : 1 < left → e % 256 < 64
   pub passed : ℕ
   pub same : (ws : List ℕ) (at : ℕ) → room_by left ws (at + passed) g e w m v ≡ room_by n ws at g₀ e₀ w₀ m₀ v₀
-
-pub rooming : (n g e w m v : ℕ) → 1 ≤ n → Ahead n e w 0 → Rooming n g e w m v n g e w m v
-rooming n g e w m v h a = record { some = h; weight = 0; ahead = a; few = λ l. (ahead_on n e w 0 l a).3; passed = 0; same = λ ws at. ap (λ k. room_by n ws k g e w m v) (add-zero at) }
 
 module _ {n g₀ e₀ w₀ m₀ v₀ left g e w m v : ℕ} (k : Rooming n g₀ e₀ w₀ m₀ v₀ left g e w m v) where
   pub narrow : w % 256 ≤ 16

@@ -1,15 +1,7 @@
 use mathlib.Core.Path.{sym, ◌∙◌}
 use native.Mathlib.Omega.{arith}
-use Rattle.rooms.proofs.Raises.{raising, narrow, marked, ahead_next, raise_stays, raise-last, raise_enters, raise_on}
+use Rattle.rooms.proofs.Raises.{marked, ahead_next, raise_stays, raise-last, raise_enters, raise_on}
 use Rattle.rooms.proofs.room_to_raise.Goals as goal
-
-pub loop-init : goal.loop-init
-loop-init c =
-    let a = c.args in
-    record { place = omega arith; walk = raising a.levels.count a.g a.levels.entries a.levels.widths a.a0 a.v0 c.requires.1 c.requires.0 c.requires.2 }
-
-pub overflow_shr-v : goal.overflow_shr-v
-overflow_shr-v c = omega (arith, narrow c.loop.invariant.walk)
 
 pub returns-then-v-eq0 : goal.returns-then-v-eq0
 returns-then-v-eq0 c = raise_stays c.loop.invariant.walk (rw (← c.width-v.ensures.0) c.if-v-eq0.true)
@@ -40,9 +32,6 @@ loop-preserved c = record {
       (raise_on c.loop.invariant.walk (omega arith) (rw (← c.width-v.ensures.0) c.if-v-eq0.false)
       (λ z. c.if-bit-eq0.false (c.bit.ensures ∙ rw (c.pow2.ensures.0, c.entries-k.ensures.0) z)));
 }
-
-pub overflow_shr-result : goal.overflow_shr-result
-overflow_shr-result c = omega (arith, narrow c.loop.invariant.walk)
 
 pub returns : goal.returns
 returns c = rw c.width.ensures.0 (raise-last c.loop.invariant.walk (omega arith))
