@@ -39,24 +39,11 @@ impl Bucket {
         }
         let marks = self.marks;
         let upper = self.upper;
+        let levels = shape.levels();
         if packed::bit(marks, place) == 0 {
-            return rooms::room_to_enter(
-                marks,
-                upper.packed,
-                shape.uppers,
-                shape.entries,
-                shape.widths,
-                high,
-            );
+            return rooms::room_to_enter(marks, upper.packed, levels, high);
         }
-        rooms::room_to_raise(
-            upper.packed,
-            shape.uppers,
-            shape.entries,
-            shape.widths,
-            packed::rank(marks, place),
-            high,
-        )
+        rooms::room_to_raise(upper.packed, levels, packed::rank(marks, place), high)
     }
 
     // The count at a place comes to the value, for which there is room.

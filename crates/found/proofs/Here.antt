@@ -8,6 +8,7 @@ use native.Mathlib.Omega.{arith}
 use lib.Dec.{T, eqb, ltb, eqb→eq, ltb→lt}
 use lib.ListN.{length, get_or, take, drop}
 use lib.Pow.{shr-shr}
+use Rattle.std.specs.Prelude.{Option, Some, None}
 use Rattle.model.specs.Lists.{sum, by_mark}
 use Rattle.model.specs.Shapes.{rows_of, bucket_size}
 use Rattle.model.specs.Walls.{Bucket, Full, Header, buckets_in, bucket_length, read_bucket, empty_full, parse}
@@ -15,8 +16,6 @@ use Rattle.model.specs.Sound.{bucket_at, full_for, flag, full_number, own_counts
 use Rattle.model.proofs.Buckets.{SoundB, bucket_facts, counts-none, length-own}
 use Rattle.layout.specs.declared.Wall.{Wall}
 use Rattle.layout.specs.Views.{header_of}
-use Rattle.uppers.specs.declared.Judged.{Judged}
-use Rattle.uppers.specs.declared.Judged.TheVariants.{Sound, Unsound}
 use Rattle.uppers.specs.Judge.{verdict}
 use Rattle.moves.specs.Full.{full_at}
 use Rattle.uppers.proofs.Verdicts.{said-sound, said-not, say_not}
@@ -84,7 +83,7 @@ module _ (ws : List ℕ) (v : Wall) (o : Open ws v) (i : ℕ) (h : i < buckets_i
   unfolding sound_at
   facts t = bucket_facts (parse ws).header.width (parse ws).header.rows (parse ws).header.total (parse ws).header.used b (full_for (parse ws) i) t
 
-  abbrev said : Judged
+  abbrev said : Option ℕ
   said = verdict (sound_at (parse ws) i) (sum (counts_at (parse ws) i))
 
   module _ (x : ℕ) (qx : x ≡ b.packed) (l : 0 < x / 2 ^ 40) where
@@ -95,10 +94,10 @@ module _ (ws : List ℕ) (v : Wall) (o : Open ws v) (i : ℕ) (h : i < buckets_i
         let f = flag-told b.packed v.used z.spare (subst (λ m. T (by_mark (flag b) (eqb (full_number b) 0) (ltb (full_number b) m))) (sym u) z.number) (subst (λ y. 0 < y / 2 ^ 40) qx l) in
         (ap (λ y. y / 2 ^ 40 % 256) qx ∙ f.0, subst (λ y. y / 2 ^ 48 < v.used) (sym qx) f.1)
 
-    pub no_one : (x / 2 ^ 40 % 256 ≡ 1 → ⊥) → Unsound ≡ said
+    pub no_one : (x / 2 ^ 40 % 256 ≡ 1 → ⊥) → None ≡ said
     no_one z = say_not (sound_at (parse ws) i) (sum (counts_at (parse ws) i)) (λ t. z (sound-flag t).0)
 
-    pub no_number : v.used ≤ x / 2 ^ 48 → Unsound ≡ said
+    pub no_number : v.used ≤ x / 2 ^ 48 → None ≡ said
     no_number z = say_not (sound_at (parse ws) i) (sum (counts_at (parse ws) i)) (λ t. omega (arith, (sound-flag t).1))
 
   pub number-few : (q : ℕ) → q < v.used → q < 4096
@@ -159,7 +158,7 @@ module _ (ws : List ℕ) (v : Wall) (o : Open ws v) (i : ℕ) (h : i < buckets_i
         pub plain-sound : (r : Bool) → SaysSound v.width n e s ws at v.total r → r ≡ sound_at (parse ws) i
         plain-sound r z = z v.used ∙ sound-at empty_full no_flag
 
-        pub plain_weighed : (r : Judged) → Weighs v.width n e s ws at v.total r → r ≡ said
+        pub plain_weighed : (r : Option ℕ) → Weighs v.width n e s ws at v.total r → r ≡ said
         plain_weighed r z = z v.used ∙ ap₂ verdict (sound-at empty_full no_flag) (ap sum own-counts)
 
         pub plain-count : (a r : ℕ) → r ≡ get_or (own_in v.width n e s ws at) a 0 → r ≡ get_or (counts_at (parse ws) i) a 0
@@ -182,7 +181,7 @@ module _ (ws : List ℕ) (v : Wall) (o : Open ws v) (i : ℕ) (h : i < buckets_i
         pub packed_one : get_or ws (at + v.width + 1 + n) 0 / 2 ^ 40 % 256 ≡ 1
         packed_one = ap (λ y. y / 2 ^ 40 % 256) (packed-at ∙ sym qx) ∙ one
 
-        pub flagged-judged : (r : Judged) → Judges v.width n e s ws at f v.total r → r ≡ said
+        pub flagged-judged : (r : Option ℕ) → Judges v.width n e s ws at f v.total r → r ≡ said
         flagged-judged r z =
             z v.used (subst (λ y. y / 2 ^ 48 < v.used) (qx ∙ sym packed-at) num)
             ∙ ap₂ verdict (sound-at (full_at ws f) its_full) (ap sum (counts-at (full_at ws f) its_full))
@@ -199,19 +198,19 @@ module _ (ws : List ℕ) (v : Wall) (o : Open ws v) (i : ℕ) (h : i < buckets_i
 
 -- ---- a verdict with another number
 
-pub other-unsound : (b : Bool) (n m : ℕ) → verdict b n ≡ Unsound → Unsound ≡ verdict b m
+pub other-unsound : (b : Bool) (n m : ℕ) → verdict b n ≡ None → None ≡ verdict b m
 other-unsound b n m e = sym (ap (λ b. verdict b m) (said-not b n e))
 
-pub other-sound : (b : Bool) (n m r : ℕ) {x : ℕ} → verdict b n ≡ Sound x → r ≡ m → Sound r ≡ verdict b m
-other-sound b n m r e q = ap Sound q ∙ sym (ap (λ b. verdict b m) (said-sound b n e).0)
+pub other-sound : (b : Bool) (n m r : ℕ) {x : ℕ} → verdict b n ≡ Some x → r ≡ m → Some r ≡ verdict b m
+other-sound b n m r e q = ap Some q ∙ sym (ap (λ b. verdict b m) (said-sound b n e).0)
 
-pub told-sound : (b : Bool) (n : ℕ) {x : ℕ} → verdict b n ≡ Sound x → T b
+pub told-sound : (b : Bool) (n : ℕ) {x : ℕ} → verdict b n ≡ Some x → T b
 told-sound b n e = subst T (sym (said-sound b n e).0) tt
 
-pub denied : (b r : Bool) (m : ℕ) → r ≡ b → not r ≡ true → Unsound ≡ verdict b m
+pub denied : (b r : Bool) (m : ℕ) → r ≡ b → not r ≡ true → None ≡ verdict b m
 denied b true m e z = absurd (subst T (sym z) tt)
 denied b false m e z = ap (λ b. verdict b m) e
 
-pub granted : (b r : Bool) (n m : ℕ) → r ≡ b → not r ≡ false → n ≡ m → Sound n ≡ verdict b m
-granted b true n m e z q = ap Sound q ∙ ap (λ b. verdict b m) e
+pub granted : (b r : Bool) (n m : ℕ) → r ≡ b → not r ≡ false → n ≡ m → Some n ≡ verdict b m
+granted b true n m e z q = ap Some q ∙ ap (λ b. verdict b m) e
 granted b false n m e z q = absurd (subst T z tt)

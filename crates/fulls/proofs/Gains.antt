@@ -11,6 +11,7 @@ use lib.Dec.{T, ltb, eqb, leb→le, le→leb, ltb→lt}
 use lib.ListN.{length, get_or, take}
 use lib.Seq.{take_all}
 use borrow.Author.Count.{below_none, below_more}
+use Rattle.std.specs.Prelude.{Option, Some, None}
 use Rattle.model.specs.Lists.{sum, all, by_mark}
 use Rattle.model.specs.Packed.{bit, rank}
 use Rattle.model.specs.Walls.{Full}
@@ -19,8 +20,6 @@ use Rattle.model.proofs.Crowding.{T_true}
 use Rattle.model.proofs.Tests.{every-at, every_of}
 use Rattle.model.proofs.Tools.{all_tests, tests_all}
 use Rattle.model.proofs.Buckets.{count_at, length-counts}
-use Rattle.uppers.specs.declared.Judged.{Judged}
-use Rattle.uppers.specs.declared.Judged.TheVariants.{Sound, Unsound}
 use Rattle.uppers.specs.Judge.{verdict}
 use Rattle.moves.specs.Full.{full_at}
 use Rattle.uppers.proofs.Verdicts.{said-sound, said-not, say_sound, say_not}
@@ -31,11 +30,11 @@ use Rattle.fulls.proofs.Zeros.{too_few, all_sound}
 -- ---- one place
 
 -- a verdict keeps its side when its number changes
-other-number : (b : Bool) (n m x : ℕ) → Sound x ≡ verdict b n → Sound m ≡ verdict b m
+other-number : (b : Bool) (n m x : ℕ) → Some x ≡ verdict b n → Some m ≡ verdict b m
 other-number true n m x e = refl
 other-number false n m x e = let z : ◌≡◌ {A = ℕ} 0 1 = cc in absurd (omega arith)
 
-other-not : (b : Bool) (n m : ℕ) → Unsound ≡ verdict b n → Unsound ≡ verdict b m
+other-not : (b : Bool) (n m : ℕ) → None ≡ verdict b n → None ≡ verdict b m
 other-not false n m e = refl
 other-not true n m e = let z : ◌≡◌ {A = ℕ} 0 1 = cc in absurd (omega arith)
 
@@ -46,15 +45,15 @@ module _ (os ws : List ℕ) (at a : ℕ) (l : a < 64) where
   abbrev count : ℕ
   count = get_or ws (at + 1 + a) 0
 
-  abbrev said : Judged
+  abbrev said : Option ℕ
   said = verdict (sound_place os f a) (gained os f a)
 
-  pub moved_gains : (bit (get_or ws at 0) a ≡ 0 → ⊥) → (own : ℕ) → own ≡ get_or os a 0 → own < count → Sound (count - own) ≡ said
+  pub moved_gains : (bit (get_or ws at 0) a ≡ 0 → ⊥) → (own : ℕ) → own ≡ get_or os a 0 → own < count → Some (count - own) ≡ said
   moved_gains z own q h =
       let d : gained os f a ≡ count - own = ap₂ ◌-◌ (moved-count os ws at a l z) (sym q) in
-      ap Sound (sym d) ∙ other-number (sound_place os f a) (get_or (bucket_counts os f) a 0) (gained os f a) count (moved-sound os ws at a l z (subst (λ k. k < count) q h))
+      ap Some (sym d) ∙ other-number (sound_place os f a) (get_or (bucket_counts os f) a 0) (gained os f a) count (moved-sound os ws at a l z (subst (λ k. k < count) q h))
 
-  pub moved-low : (bit (get_or ws at 0) a ≡ 0 → ⊥) → (own : ℕ) → own ≡ get_or os a 0 → count ≤ own → Unsound ≡ said
+  pub moved-low : (bit (get_or ws at 0) a ≡ 0 → ⊥) → (own : ℕ) → own ≡ get_or os a 0 → count ≤ own → None ≡ said
   moved-low z own q h = other-not (sound_place os f a) (get_or (bucket_counts os f) a 0) (gained os f a) (moved-unsound os ws at a l z (subst (λ k. count ≤ k) q h))
 
 -- ---- sums of two lists, one at least the other
@@ -86,7 +85,7 @@ module _ (os : List ℕ) (f : Full) (total : ℕ) (long : length os ≡ 64) wher
   abbrev cs : List ℕ
   cs = bucket_counts os f
 
-  abbrev all_said : Judged
+  abbrev all_said : Option ℕ
   all_said = verdict (all (full_tests os f total)) (sum cs)
 
   -- a sound place has at least its own count
@@ -103,21 +102,21 @@ module _ (os : List ℕ) (f : Full) (total : ℕ) (long : length os ≡ 64) wher
       rest_more os cs k (long ∙ sym (length-counts os f))
       (λ i l. let h : i < 64 = subst (λ n. i < n) long l in at_least i h (every-at 64 (sound_place os f) (all_tests (full_tests os f total) t).1.0 i h))
 
-  over : (k : ℕ) → total + sum (take k os) < sum os + sum (take k cs) → Unsound ≡ all_said
+  over : (k : ℕ) → total + sum (take k os) < sum os + sum (take k cs) → None ≡ all_said
   over k h =
       say_not (all (full_tests os f total)) (sum cs)
       (λ t. omega (arith, sum_least t k, leb→le (sum cs) total (all_tests (full_tests os f total) t).1.1.0))
 
-  pub own_over : (own : ℕ) → own ≡ sum os → total < own → Unsound ≡ all_said
+  pub own_over : (own : ℕ) → own ≡ sum os → total < own → None ≡ all_said
   own_over own e h = over 0 (omega arith)
 
   pub none_walked : (own : ℕ) → own ≡ sum os → own ≤ total → Walked os f total 0 (total - own)
   none_walked own e h = record { places = below_none (λ i. (moved_at f i ≡ 0 → ⊥) → sound_place os f i ≡ true); adds = omega arith }
 
-  pub bad_gain : (k : ℕ) → k < 64 → verdict (sound_place os f k) (gained os f k) ≡ Unsound → Unsound ≡ all_said
+  pub bad_gain : (k : ℕ) → k < 64 → verdict (sound_place os f k) (gained os f k) ≡ None → None ≡ all_said
   bad_gain k h e = bad_place os f total k h (ap (λ b. verdict b (get_or cs k 0)) (said-not (sound_place os f k) (gained os f k) e))
 
-  module _ (k s c : ℕ) (h : k < 64) (q : Walked os f total k s) (e : verdict (sound_place os f k) (gained os f k) ≡ Sound c) where
+  module _ (k s c : ℕ) (h : k < 64) (q : Walked os f total k s) (e : verdict (sound_place os f k) (gained os f k) ≡ Some c) where
     told : (sound_place os f k ≡ true) × (gained os f k ≡ c)
     told = said-sound (sound_place os f k) (gained os f k) e
 
@@ -126,7 +125,7 @@ module _ (os : List ℕ) (f : Full) (total : ℕ) (long : length os ≡ 64) wher
         let a : get_or os k 0 ≤ get_or cs k 0 = at_least k h (subst T (sym told.0) tt) in
         omega (arith, told.1)
 
-    pub gains_over : s < c → Unsound ≡ all_said
+    pub gains_over : s < c → None ≡ all_said
     gains_over l = over (k + 1) (omega (arith, q.adds, more, sum-next os k, sum-next cs k))
 
     pub one_walked : c ≤ s → Walked os f total (k + 1) (s - c)
@@ -150,19 +149,19 @@ module _ (os : List ℕ) (f : Full) (total : ℕ) (long : length os ≡ 64) wher
       (λ n h w l z. one_unmoved n s l (z n h (le_refl (suc n))) (w (omega arith) (λ i h m. z i h (lt_of_lt_of_le m (le-suc n)))))
       j h l z
 
-  pub few_zeros : zero_places f 64 + rank f.moved 64 < 64 → Unsound ≡ all_said
+  pub few_zeros : zero_places f 64 + rank f.moved 64 < 64 → None ≡ all_said
   few_zeros l =
       say_not (all (full_tests os f total)) (sum cs)
       (λ t. too_few os f 64 l (λ i h. sym (T_true (sound_place os f i) (every-at 64 (sound_place os f) (all_tests (full_tests os f total) t).1.0 i h))))
 
-  pub all_walked : (s : ℕ) → 1 ≤ rank f.moved 64 → 64 ≤ zero_places f 64 + rank f.moved 64 → Walked os f total 64 s → (s ≤ total) × (Sound (total - s) ≡ all_said)
+  pub all_walked : (s : ℕ) → 1 ≤ rank f.moved 64 → 64 ≤ zero_places f 64 + rank f.moved 64 → Walked os f total 64 s → (s ≤ total) × (Some (total - s) ≡ all_said)
   all_walked s h l q =
       let x : sum (take 64 os) ≡ sum os = ap sum (take_all 64 os (le_of_eq long)) in
       let y : sum (take 64 cs) ≡ sum cs = ap sum (take_all 64 cs (le_of_eq (length-counts os f))) in
       let e : s + sum cs ≡ total = taken_off s (sum os) (sum (take 64 cs)) (sum (take 64 os)) total (sum cs) q.adds x y in
       let o = left_over s (sum cs) total e in (
         o.0,
-        ap Sound o.2
+        ap Some o.2
             ∙ say_sound (all (full_tests os f total)) (sum cs)
             (tests_all (full_tests os f total)
             (le→leb 1 (rank f.moved 64) h, (every_of 64 (sound_place os f) (λ k m. subst T (sym (all_sound os f 64 q.places l k m)) tt), (le→leb (sum cs) total o.1, tt)))),

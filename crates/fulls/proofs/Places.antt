@@ -10,6 +10,7 @@ use lib.Count.{ones}
 use lib.ListN.{get_or, take}
 use borrow.Author.Count.{below_more}
 use borrow.Author.Tests.{lt-ltb, le-ltb}
+use Rattle.std.specs.Prelude.{Option, Some, None}
 use Rattle.model.specs.Lists.{sum, all, every, by_mark}
 use Rattle.model.specs.Packed.{bit, rank}
 use Rattle.model.specs.Walls.{Full}
@@ -18,8 +19,6 @@ use Rattle.model.proofs.Packing.{rank-all}
 use Rattle.model.proofs.Tests.{every-at, every_of}
 use Rattle.model.proofs.Tools.{all_tests, tests_all}
 use Rattle.model.proofs.Buckets.{count_at}
-use Rattle.uppers.specs.declared.Judged.{Judged}
-use Rattle.uppers.specs.declared.Judged.TheVariants.{Sound, Unsound}
 use Rattle.uppers.specs.Judge.{verdict}
 use Rattle.moves.specs.Full.{full_at}
 use Rattle.fulls.specs.Fulls.{full_tests}
@@ -56,13 +55,13 @@ module _ (os ws : List ℕ) (at a : ℕ) (l : a < 64) where
       mark_some (moved_at (full_at ws at) a) (eqb (full_count (full_at ws at) a) 0) (ltb (get_or os a 0) (full_count (full_at ws at) a)) (λ e. z (sym flag ∙ e))
       ∙ ap (λ x. ltb (get_or os a 0) x) (full-count ws at a l)
 
-  abbrev said : Judged
+  abbrev said : Option ℕ
   said = verdict (sound_place os (full_at ws at) a) (get_or (bucket_counts os (full_at ws at)) a 0)
 
-  pub moved-sound : (bit (get_or ws at 0) a ≡ 0 → ⊥) → get_or os a 0 < count → Sound count ≡ said
+  pub moved-sound : (bit (get_or ws at 0) a ≡ 0 → ⊥) → get_or os a 0 < count → Some count ≡ said
   moved-sound z h = sym (ap₂ verdict (moved_test z ∙ lt-ltb (get_or os a 0) count h) (moved-count z))
 
-  pub moved-unsound : (bit (get_or ws at 0) a ≡ 0 → ⊥) → count ≤ get_or os a 0 → Unsound ≡ said
+  pub moved-unsound : (bit (get_or ws at 0) a ≡ 0 → ⊥) → count ≤ get_or os a 0 → None ≡ said
   moved-unsound z h = sym (ap (λ b. verdict b (get_or (bucket_counts os (full_at ws at)) a 0)) (moved_test z ∙ le-ltb (get_or os a 0) count h))
 
 -- ---- sums of the first counts
@@ -88,16 +87,16 @@ module _ (n m : ℕ) (p : ℕ → Bool) (s total : ℕ) where
   abbrev tests : List Bool
   tests = leb 1 m ∷ every n p ∷ leb s total ∷ []
 
-  none : m ≡ 0 → Unsound ≡ verdict (all tests) s
+  none : m ≡ 0 → None ≡ verdict (all tests) s
   none e = say_not (all tests) s (λ t. omega (arith, leb→le 1 m (all_tests tests t).0))
 
-  wrong : (k : ℕ) → k < n → p k ≡ false → Unsound ≡ verdict (all tests) s
+  wrong : (k : ℕ) → k < n → p k ≡ false → None ≡ verdict (all tests) s
   wrong k h e = say_not (all tests) s (λ t. subst T e (every-at n p (all_tests tests t).1.0 k h))
 
-  excess : total < s → Unsound ≡ verdict (all tests) s
+  excess : total < s → None ≡ verdict (all tests) s
   excess h = say_not (all tests) s (λ t. omega (arith, leb→le s total (all_tests tests t).1.1.0))
 
-  right : 1 ≤ m → ((k : ℕ) → k < n → p k ≡ true) → s ≤ total → Sound s ≡ verdict (all tests) s
+  right : 1 ≤ m → ((k : ℕ) → k < n → p k ≡ true) → s ≤ total → Some s ≡ verdict (all tests) s
   right h f l =
       say_sound (all tests) s (tests_all tests (le→leb 1 m h, (every_of n p (λ k q. subst T (sym (f k q)) tt), (le→leb s total l, tt))))
 
@@ -108,23 +107,23 @@ pub record Passed (os : List ℕ) (f : Full) (total k s : ℕ) : Type 0 where
   pub most : s ≤ total
 
 module _ (os : List ℕ) (f : Full) (total : ℕ) where
-  abbrev all_said : Judged
+  abbrev all_said : Option ℕ
   all_said = verdict (all (full_tests os f total)) (sum (bucket_counts os f))
 
-  abbrev place-said : ℕ → Judged
+  abbrev place-said : ℕ → Option ℕ
   place-said k = verdict (sound_place os f k) (get_or (bucket_counts os f) k 0)
 
-  pub no_flag : rank f.moved 64 ≡ 0 → Unsound ≡ all_said
+  pub no_flag : rank f.moved 64 ≡ 0 → None ≡ all_said
   no_flag e = none 64 (rank f.moved 64) (sound_place os f) (sum (bucket_counts os f)) total e
 
-  pub bad_place : (k : ℕ) → k < 64 → place-said k ≡ Unsound → Unsound ≡ all_said
+  pub bad_place : (k : ℕ) → k < 64 → place-said k ≡ None → None ≡ all_said
   bad_place k h e = wrong 64 (rank f.moved 64) (sound_place os f) (sum (bucket_counts os f)) total k h (said-not (sound_place os f k) (get_or (bucket_counts os f) k 0) e)
 
-  module _ (k s c : ℕ) (q : Passed os f total k s) (e : place-said k ≡ Sound c) where
+  module _ (k s c : ℕ) (q : Passed os f total k s) (e : place-said k ≡ Some c) where
     next-sum : sum (take (k + 1) (bucket_counts os f)) ≡ s + c
     next-sum = sum-next (bucket_counts os f) k ∙ ap₂ ◌+◌ (sym q.adds) (said-sound (sound_place os f k) (get_or (bucket_counts os f) k 0) e).1
 
-    pub too_many : total - s < c → Unsound ≡ all_said
+    pub too_many : total - s < c → None ≡ all_said
     too_many h =
         excess 64 (rank f.moved 64) (sound_place os f) (sum (bucket_counts os f)) total
         (omega (arith, next-sum, sum-take (bucket_counts os f) (k + 1), q.most))

@@ -9,6 +9,7 @@ use lib.Dec.{T, ltb, eqb, leb→le, le→leb, lt→ltb, eqb→eq}
 use lib.ListN.{length, get_or, drop}
 use lib.Count.{ones, ones-le}
 use borrow.Author.Tests.{eq-eqb}
+use Rattle.std.specs.Prelude.{Option, Some, None}
 use Rattle.model.specs.Lists.{sum, all, by_mark}
 use Rattle.model.specs.Packed.{rank}
 use Rattle.model.specs.Shapes.{Row, all_rows}
@@ -18,8 +19,6 @@ use Rattle.model.specs.Sound.{upper_marks, spare_bits, flag, full_number, levels
 use Rattle.model.proofs.Tests.{every-at, every_of}
 use Rattle.model.proofs.Tools.{bool_eq, and_tests, tests_and, all_tests, tests_all}
 use Rattle.model.proofs.Buckets.{bucket_facts, facts_bucket, levels_sound, sound-levels, length-own}
-use Rattle.uppers.specs.declared.Judged.{Judged}
-use Rattle.uppers.specs.declared.Judged.TheVariants.{Sound, Unsound}
 use Rattle.uppers.specs.Judge.{verdict}
 use Rattle.fulls.specs.Fulls.{full_tests}
 use Rattle.uppers.proofs.Verdicts.{said-sound, said-not}
@@ -60,16 +59,16 @@ module _ (w n e v : ℕ) (ws : List ℕ) (at : ℕ) (h : at + w + 1 + n ≤ leng
   here : b.packed ≡ x
   here = packed-here w n e v ws at h each
 
-  abbrev verdict_here : Judged
+  abbrev verdict_here : Option ℕ
   verdict_here = judged n ws (at + w + 1) g e v (ones m1) w 0
 
-  pub upper_fits : Ahead n e v w → w ≤ 16 → {y : ℕ} → verdict_here ≡ Sound y → y < 2 ^ 63
+  pub upper_fits : Ahead n e v w → w ≤ 16 → {y : ℕ} → verdict_here ≡ Some y → y < 2 ^ 63
   upper_fits a k {y} f =
       let d = (said-sound levels (0 + sum_by n ws (at + w + 1) g e v (ones m1) * 2 ^ w) f).1 in
       let m = sum_small n ws (at + w + 1) g e v (ones m1) w (omega arith) a (ones-le 64 m1 (each (at + w))) in
       omega (arith, add-mul (sum_by n ws (at + w + 1) g e v (ones m1)) 64 (2 ^ w))
 
-  pub own-sum : {y : ℕ} → verdict_here ≡ Sound y → (own : ℕ) → own ≡ y + first_sum w (drop at ws) → own ≡ sum os
+  pub own-sum : {y : ℕ} → verdict_here ≡ Some y → (own : ℕ) → own ≡ y + first_sum w (drop at ws) → own ≡ sum os
   unfolding sound_by sum_by
   own-sum f own d =
       let k = said-sound levels (0 + sum_by n ws (at + w + 1) g e v (ones m1) * 2 ^ w) f in
@@ -120,20 +119,20 @@ module _ (w n e v : ℕ) (ws : List ℕ) (at : ℕ) (h : at + w + 1 + n ≤ leng
     sound_both : sound_bucket w rs total used b f ≡ levels && tests
     sound_both = bool_eq (sound_bucket w rs total used b f) (levels && tests) facts_out facts_in
 
-    abbrev said : Judged
+    abbrev said : Option ℕ
     said = verdict (sound_bucket w rs total used b f) (sum (bucket_counts os f))
 
     -- as the code goes
-    pub levels-unsound : verdict_here ≡ Unsound → Unsound ≡ said
+    pub levels-unsound : verdict_here ≡ None → None ≡ said
     levels-unsound q =
         let k = said-not levels (0 + sum_by n ws (at + w + 1) g e v (ones m1) * 2 ^ w) q in
         sym (ap (λ k. verdict k (sum (bucket_counts os f))) (sound_both ∙ ap (λ k. k && tests) k))
 
-    module _ {y : ℕ} (q : verdict_here ≡ Sound y) (own : ℕ) (d : own ≡ y + first_sum w (drop at ws)) where
-      pub tests_decide : (r : Judged) → r ≡ verdict tests (sum (bucket_counts os f)) → r ≡ said
+    module _ {y : ℕ} (q : verdict_here ≡ Some y) (own : ℕ) (d : own ≡ y + first_sum w (drop at ws)) where
+      pub tests_decide : (r : Option ℕ) → r ≡ verdict tests (sum (bucket_counts os f)) → r ≡ said
       tests_decide r z =
           let k = (said-sound levels (0 + sum_by n ws (at + w + 1) g e v (ones m1) * 2 ^ w) q).0 in
           z ∙ sym (ap (λ k. verdict k (sum (bucket_counts os f))) (sound_both ∙ ap (λ k. k && tests) k))
 
-      pub own_over_total : total < own → Unsound ≡ said
-      own_over_total l = tests_decide Unsound (own_over os f total (length-own w rs b) own (own-sum q own d) l)
+      pub own_over_total : total < own → None ≡ said
+      own_over_total l = tests_decide None (own_over os f total (length-own w rs b) own (own-sum q own d) l)

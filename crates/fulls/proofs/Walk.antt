@@ -5,11 +5,10 @@ use Prim.Native.Nat.{ℕ, ◌+◌, ◌-◌, ◌*◌, ◌/◌, ◌^◌, ◌≤◌
 use native.Mathlib.Nat.{div-one, mul-one, le_refl}
 use native.Mathlib.Omega.{arith}
 use lib.ListN.{length, get_or}
+use Rattle.std.specs.Prelude.{Option, Some, None}
 use Rattle.model.specs.Lists.{sum, all}
 use Rattle.model.specs.Packed.{bit, rank}
 use Rattle.model.specs.Sound.{moved_at, bucket_counts, sound_place}
-use Rattle.uppers.specs.declared.Judged.{Judged}
-use Rattle.uppers.specs.declared.Judged.TheVariants.{Sound, Unsound}
 use Rattle.uppers.specs.Judge.{verdict}
 use Rattle.moves.specs.Full.{full_at}
 use Rattle.moves.proofs.Fulls.{full-moved}
@@ -25,7 +24,7 @@ pub record Going (os ws : List ℕ) (at total m s : ℕ) : Type 0 where
   pub walked : Walked os (full_at ws at) total past s
 
 module _ (os ws : List ℕ) (at total : ℕ) (long : length os ≡ 64) where
-  abbrev pub said : Judged
+  abbrev pub said : Option ℕ
   said = verdict (all (full_tests os (full_at ws at) total)) (sum (bucket_counts os (full_at ws at)))
 
   -- a mark of the word is one of the model
@@ -41,8 +40,8 @@ module _ (os ws : List ℕ) (at total : ℕ) (long : length os ≡ 64) where
         unmoved_walked os (full_at ws at) total long q.past t s (passed (get_or ws at 0) q.past m q.marks 64 t l) (omega (arith, l.within))
         (λ i h k. flag i (between (get_or ws at 0) q.past m q.marks 64 t l i h k)) q.walked
 
-    module _ (c : ℕ) (e : verdict (sound_place os (full_at ws at) t) (gained os (full_at ws at) t) ≡ Sound c) where
-      pub over : s < c → Unsound ≡ said
+    module _ (c : ℕ) (e : verdict (sound_place os (full_at ws at) t) (gained os (full_at ws at) t) ≡ Some c) where
+      pub over : s < c → None ≡ said
       over = gains_over os (full_at ws at) total long t s c l.within to_place e
 
       pub one_behind : c ≤ s → Going os ws at total (m - 2 ^ t) (s - c)
@@ -54,7 +53,7 @@ module _ (os ws : List ℕ) (at total : ℕ) (long : length os ≡ 64) where
       }
 
   pub at-end : (m s : ℕ) → m ≡ 0 → 1 ≤ rank (full_at ws at).moved 64 → 64 ≤ zero_places (full_at ws at) 64 + rank (full_at ws at).moved 64
-      → Going os ws at total m s → (s ≤ total) × (Sound (total - s) ≡ said)
+      → Going os ws at total m s → (s ≤ total) × (Some (total - s) ≡ said)
   at-end m s z h n q =
       all_walked os (full_at ws at) total long s h n
       (unmoved_walked os (full_at ws at) total long q.past 64 s q.few (le_refl 64) (λ i k j. flag i (none_left (get_or ws at 0) q.past m q.marks z i k)) q.walked)

@@ -8,8 +8,11 @@ use native.Mathlib.Nat.{le_refl, le_of_eq, le-suc, le_of_suc-le-suc, eq-or-lt_of
 use native.Mathlib.Numerals.{add-one}
 use native.Mathlib.Omega.{arith}
 use lib.Dec.{ltb, eqb}
-use lib.ListN.{get_or}
-use borrow.Author.Tests.{ltb-true, eq-eqb, ne_eqb}
+use lib.ListN.{length, get_or, take, drop, length-drop}
+use lib.Seq.{get_or-drop, length-take-le}
+use borrow.Author.Tests.{ltb-true, ne_eqb}
+use Rattle.std.specs.Prelude.{◌==◌, count_by}
+use Rattle.std.proofs.lemmas.List.Sums.{count_by_more_yes, count_by_more_no, count_by-le-length}
 use Rattle.model.specs.Lists.{by_mark, one_if}
 use Rattle.model.specs.Packed.{bit, rank}
 use Rattle.model.specs.Walls.{Full}
@@ -102,7 +105,7 @@ module _ (os : List ℕ) (f : Full) where
 
 -- ---- the places of a full-size bucket, counted one by one
 
-pub no_zeros : (f : Full) → 0 ≡ zero_places f 0
+no_zeros : (f : Full) → 0 ≡ zero_places f 0
 unfolding zero_places
 no_zeros f = refl
 
@@ -111,8 +114,26 @@ module _ (ws : List ℕ) (at a n : ℕ) (h : a < 64) (e : n ≡ zero_places (ful
   unfolding zero_places
   counted b d = rw (add-one a) (ap₂ ◌+◌ e (ap one_if (sym d ∙ ap (λ x. eqb x 0) (sym (full-count ws at a h)))))
 
-  pub zero_more : get_or ws (at + 1 + a) 0 ≡ 0 → n + 1 ≡ zero_places (full_at ws at) (a + 1)
-  zero_more z = counted true (eq-eqb (get_or ws (at + 1 + a) 0) 0 z)
+module _ (ws : List ℕ) (at : ℕ) (h : at + 65 ≤ length ws) where
+  abbrev rest : List ℕ
+  rest = drop (at + 1) ws
 
-  pub zero_same : (get_or ws (at + 1 + a) 0 ≡ 0 → ⊥) → n ≡ zero_places (full_at ws at) (a + 1)
-  zero_same z = omega (arith, counted false (ne_eqb (get_or ws (at + 1 + a) 0) 0 z))
+  abbrev zeros_of : ℕ → ℕ
+  zeros_of k = count_by (λ x. x == 0) (take k rest)
+
+  one_more : (k : ℕ) → k < 64 → zeros_of k ≡ zero_places (full_at ws at) k → (b : Bool) → eqb (get_or ws (at + 1 + k) 0) 0 ≡ b → zeros_of (k + 1) ≡ zero_places (full_at ws at) (k + 1)
+  one_more k l before true e =
+      count_by_more_yes (λ x. x == 0) rest k 0 (rw length-drop (omega arith)) (rw get_or-drop e) ∙ counted ws at k (zeros_of k) l before true e
+  one_more k l before false e =
+      count_by_more_no (λ x. x == 0) rest k 0 (rw length-drop (omega arith)) (rw get_or-drop e) ∙ omega (arith, counted ws at k (zeros_of k) l before false e)
+
+  zeros_counted : (k : ℕ) → k ≤ 64 → zeros_of k ≡ zero_places (full_at ws at) k
+  zeros_counted zero l = no_zeros (full_at ws at)
+  zeros_counted (suc k) l = rw (← add-one k) (one_more k (omega arith) (zeros_counted k (omega arith)) (eqb (get_or ws (at + 1 + k) 0) 0) refl)
+
+  -- the number of zeros in the 64 words, as the code takes them
+  pub all_zeros : (r k : ℕ) → r ≡ zeros_of k → k ≡ 64 → (r ≡ zero_places (full_at ws at) 64) × (r ≤ 64)
+  all_zeros r k e f =
+      let all : r ≡ zeros_of 64 = rw f at e in
+      let few : 64 ≤ length rest = rw length-drop (omega (arith, h)) in
+      (all ∙ zeros_counted 64 (le_refl 64), omega (arith, all, count_by-le-length (λ x. x == 0) (take 64 rest), length-take-le 64 rest few))

@@ -1,6 +1,6 @@
 #![tactic(auto)]
 
-ghost use Rattle.std.specs.Prelude.{◌≡◌, ◌+◌, ◌-◌, ◌*◌, ◌≤◌, ◌<◌, T, length, option_map, IfSome};
+ghost use Rattle.std.specs.Prelude.{◌≡◌, ℕ, ◌^◌, get_or, ◌+◌, ◌-◌, ◌*◌, ◌≤◌, ◌<◌, T, length, option_map, IfSome};
 ghost use Rattle.std.specs.Coded.{Coded-set};
 ghost use Rattle.model.specs.Walls.{buckets_in, bucket_length, wall_size, limit_fits, full_fits, good};
 ghost use Rattle.layout.specs.Views.{header_of};
@@ -13,8 +13,9 @@ use layout::Wall;
 pub struct Opened<'a> {
     pub words: &'a [u64],
     pub header: Wall,
-    ghost fields: { header ≡ fields_of words.now } by { Coded-set header-code header (fields_of words.now) },
-    ghost good: { T (good words.now) },
+    pub ghost fields: { header ≡ fields_of words.now } by { Coded-set header-code header (fields_of words.now) },
+    pub ghost good: { T (good words.now) },
+    pub ghost fit: { (i : ℕ) → get_or words.now i 0 < 2 ^ 64 },
 }
 
 // The letters B, W, L and version 1.

@@ -3,7 +3,7 @@ use mathlib.Core.Path.{◌≡◌, refl, sym, ap, ap₂, ◌∙◌, subst, subst�
 use mathlib.Core.Bool.{Bool, true, false, ◌&&◌}
 use mathlib.Core.List.{List, [], ◌∷◌}
 use Prim.Native.Nat.{ℕ, zero, suc, ◌+◌, ◌*◌, ◌/◌, ◌%◌, ◌^◌, ◌≤◌, ◌<◌, zero-le}
-use native.Mathlib.Nat.{le_refl, le_trans, le_of_eq, mul_comm, mul_assoc, add-mul, div-eq_of_lt, zero-mul, not-suc-le-zero, mul-le-mul_left, mul-le-mul_right, mod-eq_of_lt, mod-lt}
+use native.Mathlib.Nat.{le_refl, le_trans, le_of_eq, mul_comm, mul_assoc, add-mul, div-eq_of_lt, zero-mul, not-suc-le-zero, mul-le-mul_left, mul-le-mul_right, mod-lt}
 use native.Mathlib.Omega.{arith}
 use lib.Dec.{T, leb, ltb, eqb, leb→le, le→leb, eqb→eq}
 use lib.ListN.{length, get_or, take, drop, length-map, length-drop}
@@ -11,6 +11,7 @@ use lib.Seq.{length-take-le, get_or-drop}
 use lib.Pow.{pow-add, pow_mono, pow_pos, split}
 use lib.Count.{ones, ones-le}
 use borrow.Author.Tests.{le-leb, lt-leb, lt-ltb, eq-eqb}
+use Rattle.std.specs.Prelude.{Option, Some, None}
 use Rattle.model.specs.Lists.{sum, every, by_mark}
 use Rattle.model.specs.Packed.{pack, unpack, entry, bit, rank}
 use Rattle.model.specs.Shapes.{Row, row, all_rows, mark_widths}
@@ -25,8 +26,6 @@ use Rattle.model.proofs.Coding.{Fits, used_coded}
 use Rattle.model.proofs.Buckets.{bucket_facts, facts_bucket, levels_sound, sound-levels, own-fits, own_coded, counts-none, length-own, none-places}
 use Rattle.cells.proofs.Crossing.{below_of}
 use Rattle.packed.proofs.Words.{rank_le}
-use Rattle.uppers.specs.declared.Judged.{Judged}
-use Rattle.uppers.specs.declared.Judged.TheVariants.{Sound, Unsound}
 use Rattle.uppers.specs.Judge.{verdict, sum_levels}
 use Rattle.uppers.proofs.Verdicts.{said-sound, said-not}
 use Rattle.uppers.proofs.Judging.{sum_most}
@@ -145,9 +144,6 @@ module _ (w n e v : ℕ) (ws : List ℕ) (at : ℕ) (h : at + w + 1 + n ≤ leng
 
   -- the tests that are left, where there is no flag, number or spare bit
   module _ (low : get_or ws (at + w + 1 + n) 0 < 2 ^ 40) (total used : ℕ) where
-    marks-low : g ≡ get_or ws (at + w + 1 + n) 0
-    marks-low = mod-eq_of_lt low
-
     above : b.packed / 2 ^ 40 ≡ 0
     above = ap (λ y. y / 2 ^ 40) packed-here ∙ div-eq_of_lt low
 
@@ -185,35 +181,35 @@ module _ (w n e v : ℕ) (ws : List ℕ) (at : ℕ) (h : at + w + 1 + n ≤ leng
     sound-here = bool_eq (sound_bucket w rs total used b empty_full) (sound_by n ws (at + w + 1) g e v (ones m1) && leb (sum (own_counts w rs b)) total) plain_facts facts_plain
 
     -- as the code goes
-    abbrev verdict_here : ℕ → Judged
-    verdict_here y = judged n ws (at + w + 1) y e v (ones m1) w 0
+    abbrev verdict_here : Option ℕ
+    verdict_here = judged n ws (at + w + 1) g e v (ones m1) w 0
 
-    pub unsound-here : verdict_here (get_or ws (at + w + 1 + n) 0) ≡ Unsound → false ≡ sound_bucket w rs total used b empty_full
+    pub unsound-here : verdict_here ≡ None → false ≡ sound_bucket w rs total used b empty_full
     unsound-here f =
-        let k = said-not (sound_by n ws (at + w + 1) g e v (ones m1)) (0 + sum_by n ws (at + w + 1) g e v (ones m1) * 2 ^ w) (ap verdict_here marks-low ∙ f) in
+        let k = said-not (sound_by n ws (at + w + 1) g e v (ones m1)) (0 + sum_by n ws (at + w + 1) g e v (ones m1) * 2 ^ w) f in
         sym (sound-here ∙ rw k)
 
-    pub sound-within : {y : ℕ} → verdict_here (get_or ws (at + w + 1 + n) 0) ≡ Sound y → leb (y + first_sum w (drop at ws)) total ≡ sound_bucket w rs total used b empty_full
+    pub sound-within : {y : ℕ} → verdict_here ≡ Some y → leb (y + first_sum w (drop at ws)) total ≡ sound_bucket w rs total used b empty_full
     unfolding sound_by sum_by
     sound-within {y} f =
-        let k = said-sound (sound_by n ws (at + w + 1) g e v (ones m1)) (0 + sum_by n ws (at + w + 1) g e v (ones m1) * 2 ^ w) (ap verdict_here marks-low ∙ f) in
+        let k = said-sound (sound_by n ws (at + w + 1) g e v (ones m1)) (0 + sum_by n ws (at + w + 1) g e v (ones m1) * 2 ^ w) f in
         let t : T (sound_levels 1 rs (ones m1) uppers && eqb (g / 2 ^ marks_by n e) 0) = subst T (sym k.0) tt in
         let l = and_tests (sound_levels 1 rs (ones m1) uppers) (eqb (g / 2 ^ marks_by n e) 0) t in
         let d : sum (own_counts w rs b) ≡ y + first_sum w (drop at ws) = omega (arith, sum-here l.0, k.1) in
         sym (sound-here ∙ rw (k.0, d))
 
     -- with the sum
-    abbrev weighed : Judged
+    abbrev weighed : Option ℕ
     weighed = verdict (sound_bucket w rs total used b empty_full) (sum (own_counts w rs b))
 
-    pub unsound_weighed : verdict_here (get_or ws (at + w + 1 + n) 0) ≡ Unsound → Unsound ≡ weighed
+    pub unsound_weighed : verdict_here ≡ None → None ≡ weighed
     unsound_weighed f = ap (λ k. verdict k (sum (own_counts w rs b))) (unsound-here f)
 
-    module _ {y : ℕ} (f : verdict_here (get_or ws (at + w + 1 + n) 0) ≡ Sound y) (own : ℕ) (d : own ≡ y + first_sum w (drop at ws)) where
+    module _ {y : ℕ} (f : verdict_here ≡ Some y) (own : ℕ) (d : own ≡ y + first_sum w (drop at ws)) where
       sum_weighed : own ≡ sum (own_counts w rs b)
       unfolding sound_by sum_by
       sum_weighed =
-          let k = said-sound (sound_by n ws (at + w + 1) g e v (ones m1)) (0 + sum_by n ws (at + w + 1) g e v (ones m1) * 2 ^ w) (ap verdict_here marks-low ∙ f) in
+          let k = said-sound (sound_by n ws (at + w + 1) g e v (ones m1)) (0 + sum_by n ws (at + w + 1) g e v (ones m1) * 2 ^ w) f in
           let t : T (sound_levels 1 rs (ones m1) uppers && eqb (g / 2 ^ marks_by n e) 0) = subst T (sym k.0) tt in
           let l = and_tests (sound_levels 1 rs (ones m1) uppers) (eqb (g / 2 ^ marks_by n e) 0) t in
           omega (arith, sum-here l.0, k.1)
@@ -221,14 +217,14 @@ module _ (w n e v : ℕ) (ws : List ℕ) (at : ℕ) (h : at + w + 1 + n ≤ leng
       test_weighed : leb own total ≡ sound_bucket w rs total used b empty_full
       test_weighed = ap (λ k. leb k total) d ∙ sound-within f
 
-      pub over_weighed : total < own → Unsound ≡ weighed
+      pub over_weighed : total < own → None ≡ weighed
       over_weighed h = ap (λ k. verdict k (sum (own_counts w rs b))) (sym (lt-leb own total h) ∙ test_weighed)
 
-      pub sound_weighed : own ≤ total → Sound own ≡ weighed
+      pub sound_weighed : own ≤ total → Some own ≡ weighed
       sound_weighed h = ap₂ verdict (sym (le-leb own total h) ∙ test_weighed) sum_weighed
 
-    pub upper_small : Ahead n e v w → w ≤ 16 → {y : ℕ} → verdict_here (get_or ws (at + w + 1 + n) 0) ≡ Sound y → y < 2 ^ 63
+    pub upper_small : Ahead n e v w → w ≤ 16 → {y : ℕ} → verdict_here ≡ Some y → y < 2 ^ 63
     upper_small a k {y} f =
-        let d = (said-sound (sound_by n ws (at + w + 1) g e v (ones m1)) (0 + sum_by n ws (at + w + 1) g e v (ones m1) * 2 ^ w) (ap verdict_here marks-low ∙ f)).1 in
+        let d = (said-sound (sound_by n ws (at + w + 1) g e v (ones m1)) (0 + sum_by n ws (at + w + 1) g e v (ones m1) * 2 ^ w) f).1 in
         let m = sum_small n ws (at + w + 1) g e v (ones m1) w (omega arith) a (ones-le 64 m1 (each (at + w))) in
         omega (arith, add-mul (sum_by n ws (at + w + 1) g e v (ones m1)) 64 (2 ^ w))

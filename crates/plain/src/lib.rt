@@ -1,88 +1,97 @@
 // A bucket where it lies in the words of a wall, judged and read in place; what a flagged one has besides is in its full-size bucket.
 #![tactic(auto)]
 
-ghost use Rattle.std.specs.Prelude.{◌≡◌, ◌+◌, ◌≤◌, ◌<◌, ◌^◌, leb, length, get_or, drop};
-ghost use Rattle.sums.specs.Sums.{first_sum};
-ghost use Rattle.model.specs.Sound.{own_counts};
-ghost use Rattle.uppers.specs.Uppers.{Ahead, rows_by};
-ghost use Rattle.plain.specs.Plain.{bucket_in, SaysSound, Weighs};
+mod site;
 
-use uppers::Judged;
+pub use site::Site;
 
-// The bucket's own count at a place. Who read the wall's header knows that the shape is valid and that the words are there.
-pub fn count(words: &[u64], at: usize, place: u64, width: u64, uppers: u64, e: u64, ws: u64) -> u64
-    requires { Ahead uppers e ws width × (1 ≤ uppers) × (uppers ≤ 4) × (1 ≤ width) × (width ≤ 16) × (at + width + 1 + uppers < length words.now) × (place < 64) }
-    ensures { result ≡ get_or (own_counts width (rows_by uppers e ws) (bucket_in width uppers e ws words.now at)) place 0 }
-{
-    let last = at + width as usize + 1 + uppers as usize;
-    let marks = words[last] % 1099511627776;
-    reads::count(words, at, place, marks, width, uppers, e, ws)
-}
+impl Site<'_> {
+    ghost use Rattle.std.specs.Prelude.{◌≡◌, ◌+◌, ◌%◌, ◌≤◌, ◌<◌, ◌^◌, leb, length, get_or, drop};
+    ghost use Rattle.sums.specs.Sums.{first_sum};
+    ghost use Rattle.plain.specs.Plain.{own_of, packed_of, upper_of, SaysSound, Weighs};
 
-// Whether the counts of a bucket add up to at most the total: upper is what they have above level 1, which is summed only where its largest entries
-// could exceed it. `judge` shows what this asks.
-fn within(words: &[u64], at: usize, width: u64, upper: u64, total: u64) -> bool
-    requires { (1 ≤ width) × (width ≤ 16) × (at + width ≤ length words.now) × (upper < 2 ^ 63) }
-    ensures { result ≡ leb (upper + first_sum width (drop at words.now)) total }
-{
-    if upper + 64 * (packed::pow2(width) - 1) <= total {
-        return true;
+    // The marks of level 1.
+    pub fn marks(&self) -> u64
+        ensures { result ≡ get_or self.now.words.now (self.now.at + self.now.shape.width) 0 }
+    {
+        self.words[self.at + self.shape.width as usize]
     }
-    upper + sums::sum_first(words, at, width) <= total
-}
 
-// Whether a bucket without the flag, the number and spare bits is sound. Who read the wall's header knows what this asks.
-pub fn judge(words: &[u64], at: usize, width: u64, uppers: u64, e: u64, ws: u64, total: u64) -> bool
-    requires { Ahead uppers e ws width × (1 ≤ uppers) × (uppers ≤ 4) × (1 ≤ width) × (width ≤ 16) × (at + width + 1 + uppers < length words.now) × (get_or words.now (at + width + 1 + uppers) 0 < 2 ^ 40) }
-    ensures { SaysSound width uppers e ws words.now at total result }
-{
-    let next = at + width as usize;
-    let last = next + 1 + uppers as usize;
-    let Judged::Sound(upper) = uppers::judge(
-        words,
-        next + 1,
-        words[next],
-        words[last],
-        width,
-        uppers,
-        e,
-        ws,
-    ) else {
-        return false;
-    };
-    within(words, at, width, upper, total)
-}
-
-// The same with the sum of its counts, which is always added up. It asks as `judge` does.
-pub fn weigh(
-    words: &[u64],
-    at: usize,
-    width: u64,
-    uppers: u64,
-    e: u64,
-    ws: u64,
-    total: u64,
-) -> Judged
-    requires { Ahead uppers e ws width × (1 ≤ uppers) × (uppers ≤ 4) × (1 ≤ width) × (width ≤ 16) × (at + width + 1 + uppers < length words.now) × (get_or words.now (at + width + 1 + uppers) 0 < 2 ^ 40) }
-    ensures { Weighs width uppers e ws words.now at total result }
-{
-    let next = at + width as usize;
-    let last = next + 1 + uppers as usize;
-    let Judged::Sound(upper) = uppers::judge(
-        words,
-        next + 1,
-        words[next],
-        words[last],
-        width,
-        uppers,
-        e,
-        ws,
-    ) else {
-        return Judged::Unsound;
-    };
-    let own = upper + sums::sum_first(words, at, width);
-    if total < own {
-        return Judged::Unsound;
+    // The packed word.
+    pub fn packed(&self) -> u64
+        ensures { result ≡ packed_of self.now }
+    {
+        self.words[self.at + self.shape.width as usize + 1 + self.shape.uppers as usize]
     }
-    Judged::Sound(own)
+
+    // The marks of the upper levels.
+    fn upper_marks(&self) -> u64
+        ensures { result ≡ packed_of self.now % 2 ^ 40 }
+    {
+        self.packed() % 1099511627776
+    }
+
+    // Whether the upper levels are sound, and what the counts have there.
+    pub fn upper(&self) -> Option<u64>
+        ensures { result ≡ upper_of self.now }
+    {
+        let first = self.at + self.shape.width as usize + 1;
+        uppers::judge(
+            self.words,
+            first,
+            self.marks(),
+            self.upper_marks(),
+            self.shape,
+        )
+    }
+
+    // The bucket's own count at a place.
+    pub fn count(&self, place: u64) -> u64
+        requires { place < 64 }
+        ensures { result ≡ get_or (own_of self.now) place 0 }
+    {
+        reads::count(self.words, self.at, place, self.upper_marks(), self.shape)
+    }
+
+    // Whether the counts add up to at most the total: upper is what they have above level 1, which is summed only where its largest entries
+    // could exceed it. `judge` shows what this asks.
+    fn within(&self, upper: u64, total: u64) -> bool
+        requires { upper < 2 ^ 63 }
+        ensures { result ≡ leb (upper + first_sum self.now.shape.width (drop self.now.at self.now.words.now)) total }
+    {
+        if upper + 64 * (packed::pow2(self.shape.width) - 1) <= total {
+            return true;
+        }
+        upper + self.sum_first() <= total
+    }
+
+    // The sum of the entries of level 1.
+    pub fn sum_first(&self) -> u64
+        ensures { result ≡ first_sum self.now.shape.width (drop self.now.at self.now.words.now) }
+    {
+        sums::sum_first(self.words, self.at, self.shape.width)
+    }
+
+    // Whether a bucket without the flag, the number and spare bits is sound. Who read the packed word knows what this asks.
+    pub fn judge(&self, total: u64) -> bool
+        requires { packed_of self.now < 2 ^ 40 }
+        ensures { SaysSound self.now total result }
+    {
+        match self.upper() {
+            Some(upper) => self.within(upper, total),
+            None => false,
+        }
+    }
+
+    // The same with the sum of its counts, which is always added up. It asks as `judge` does.
+    pub fn weigh(&self, total: u64) -> Option<u64>
+        requires { packed_of self.now < 2 ^ 40 }
+        ensures { Weighs self.now total result }
+    {
+        let own = self.upper()? + self.sum_first();
+        if total < own {
+            return None;
+        }
+        Some(own)
+    }
 }

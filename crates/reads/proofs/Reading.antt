@@ -6,9 +6,10 @@ use native.Mathlib.Nat.{zero-div, add-mul, mul_assoc, mul_comm, mod-lt, lt_of_lt
 use native.Mathlib.Numerals.{add-one, sub-one}
 use native.Mathlib.Omega.{arith}
 use lib.Arith.{digits_lt}
-use lib.ListN.{get_or, take, drop}
+use lib.ListN.{get_or, take, drop, length}
 use lib.Pow.{pow-add, pow_pos, pow_mono}
 use lib.Seq.{get_or-drop}
+use Rattle.std.proofs.lemmas.List.{length-take, length-drop, get_or-take}
 use Rattle.model.specs.Packed.{pack, entry, bit, rank}
 use Rattle.model.specs.Shapes.{row, all_rows}
 use Rattle.model.specs.Levels.{level, read_at}
@@ -55,6 +56,22 @@ pub record Trail (ws : List ℕ) (whole end at g left e w a t s : ℕ) : Type 0 
 pub trail : (ws : List ℕ) (at g left e w a t s : ℕ) → 1 ≤ left → left ≤ 4 → Ahead left e w t → a < 64 → s < 2 ^ t
     → Trail ws (s + read_by left ws at g e w a * 2 ^ t) (at + left) at g left e w a t s
 trail ws at g left e w a t s h k b i l = record { some = h; few = k; place = refl; ahead = b; in_word = i; low = l; same = refl }
+
+-- the words before the last of n levels: each is there for its level, and a level is ahead of it
+module _ (ws : List ℕ) (first n i : ℕ) where
+  abbrev pub below_last : List ℕ
+  below_last = take (first + n - 1 - first) (drop first ws)
+
+  pub cells_at : i < length below_last → get_or below_last i 0 ≡ get_or ws (first + i) 0
+  cells_at h = get_or-take (first + n - 1 - first) (drop first ws) i 0 (omega (arith, length-take (first + n - 1 - first) (drop first ws))) ∙ get_or-drop first ws i 0
+
+  pub more : (left : ℕ) → first + i + left ≡ first + n → i < length below_last → 1 < left
+  more left e h = omega (arith, length-take (first + n - 1 - first) (drop first ws))
+
+  pub at_last : (left : ℕ) → first + i + left ≡ first + n → 0 < left → first + n ≤ length ws → length below_last ≤ i → (left ≡ 1) × (first + n - 1 ≡ first + i)
+  at_last left e h k l =
+      let one : left ≡ 1 = omega (arith, length-take (first + n - 1 - first) (drop first ws), length-drop first ws) in
+      (one, omega arith)
 
 -- the part of this level is added
 part_lt : (x w t s : ℕ) → s < 2 ^ t → x < 2 ^ w → s + x * 2 ^ t < 2 ^ (t + w)

@@ -4,7 +4,7 @@ use mathlib.Core.Bool.{Bool}
 use mathlib.Core.List.{List, []}
 use Prim.Native.Nat.{ℕ, ◌+◌, ◌-◌, ◌≤◌, ◌<◌}
 use native.Mathlib.Omega.{arith}
-use lib.Dec.{T, eqb, ltb, eqb→eq, ltb→lt}
+use lib.Dec.{T, eqb, eqb→eq}
 use lib.ListN.{get_or}
 use Rattle.model.specs.Lists.{every}
 use Rattle.model.proofs.Tests.{every-at}
@@ -19,12 +19,3 @@ right_at t rule ok p j l m k =
     subst (λ n. get_or (get_or t (p - 3) []) j 0 ≡ rule n j) e
     (eqb→eq (get_or (get_or t (p - 3) []) j 0) (rule (p - 3 + 3) j)
     (every-at 4 (λ j. eqb (get_or (get_or t (p - 3) []) j 0) (rule (p - 3 + 3) j)) (every-at 3 (λ i. every 4 (λ j. eqb (get_or (get_or t i []) j 0) (rule (i + 3) j))) ok (p - 3) (omega arith)) j k))
-
--- each entry of such a table is a byte
-abbrev pub byte_table : List (List ℕ) → Bool
-byte_table t = every 3 (λ i. every 4 (λ j. ltb (get_or (get_or t i []) j 0) 256))
-
-pub byte_at : (t : List (List ℕ)) → T (byte_table t) → (i j : ℕ) → i < 3 → j < 4 → get_or (get_or t i []) j 0 < 256
-byte_at t ok i j l k =
-    ltb→lt (get_or (get_or t i []) j 0) 256
-    (every-at 4 (λ j. ltb (get_or (get_or t i []) j 0) 256) (every-at 3 (λ i. every 4 (λ j. ltb (get_or (get_or t i []) j 0) 256)) ok i l) j k)

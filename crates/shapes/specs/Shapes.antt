@@ -1,5 +1,6 @@
 -- A shape of the code as the model's rows, and the shape that the table gives.
-use Rattle.std.specs.Prelude.{List, [], ◌∷◌, map, ℕ, zero, suc, ◌-◌, ◌*◌, ◌/◌, ◌%◌, ◌^◌, T, get_or}
+use Rattle.std.specs.Prelude.{Bool, List, [], ◌∷◌, map, ℕ, zero, suc, ◌-◌, ◌*◌, ◌/◌, ◌%◌, ◌^◌, T, get_or, ltb}
+use Rattle.model.specs.Lists.{every}
 use Rattle.model.specs.Packed.{pack}
 use Rattle.model.specs.Shapes.{Row, row, rows_of, valid_rows, valid_width}
 use Rattle.shapes.specs.declared.Shape.{Shape}
@@ -31,6 +32,10 @@ table_entries p j = get_or (map (λ (r : Row). r.entries) (rows_of p)) j 0
 
 abbrev pub table_width : ℕ → ℕ → ℕ
 table_width p j = get_or (map (λ (r : Row). r.width) (rows_of p)) j 0
+
+-- each entry of such a table is a byte
+abbrev pub byte_table : List (List ℕ) → Bool
+byte_table t = every 3 (λ i. every 4 (λ j. ltb (get_or (get_or t i []) j 0) 256))
 
 -- a row of the table as bytes of a number, level 2 lowest
 abbrev pub entry_bytes : ℕ → ℕ

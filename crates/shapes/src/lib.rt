@@ -1,80 +1,54 @@
 // The shapes: document 01's table, and a shape in few words.
 #![tactic(auto)]
 
-ghost use Rattle.std.specs.Prelude.{◌≡◌, ◌+◌, ◌-◌, ◌≤◌, ◌<◌};
+ghost use Rattle.std.specs.Prelude.{◌≡◌, [], ℕ, ◌+◌, ◌-◌, ◌*◌, ◌/◌, ◌%◌, ◌^◌, ◌≤◌, ◌<◌, T, get_or};
+ghost use Rattle.model.specs.Packed.{pack};
 ghost use Rattle.model.specs.Shapes.{counter_bits, rows_of};
-ghost use Rattle.shapes.specs.Shapes.{entries_at, entry_bytes, shape_of, table_entries, table_width, width_at, width_bytes};
+ghost use Rattle.shapes.specs.Shapes.{byte_table, entries_at, entry_bytes, shape_of, width_at, width_bytes};
+
+mod levels;
+
+pub use levels::Levels;
 
 // Document 01's table, row by row: shapes 3, 4 and 5, levels 2 to 5.
 const ENTRIES: [[u64; 4]; 3] = [[15, 3, 0, 0], [25, 10, 2, 0], [25, 10, 3, 1]];
 
 const WIDTHS: [[u64; 4]; 3] = [[4, 13, 0, 0], [2, 4, 12, 0], [2, 3, 4, 9]];
 
-// `entry_bytes` and `width_bytes` show what these two ask.
-fn table_entries(shape: u64, level: u64) -> u64
-    requires { (3 ≤ shape) × (shape ≤ 5) × (2 ≤ level) × (level ≤ 5) }
-    ensures { (result ≡ table_entries shape (level - 2)) × (result < 256) }
+// A row of such a table as one number, a byte for each level, level 2 lowest. The shapes are told apart first, so that each is read at a number
+// that the compiler knows. `entries_of` and `widths_of` show what this asks.
+fn row_bytes(table: &[[u64; 4]; 3], shape: u64) -> u64
+    requires { (3 ≤ shape) × (shape ≤ 5) × T (byte_table table.now) }
+    ensures { result ≡ pack 8 (get_or table.now (shape - 3) []) }
 {
-    let i = (shape - 3) as usize;
-    let j = (level - 2) as usize;
-    ENTRIES[i][j]
+    match shape {
+        3 => bytes(table[0]),
+        4 => bytes(table[1]),
+        _ => bytes(table[2]),
+    }
 }
 
-fn table_width(shape: u64, level: u64) -> u64
-    requires { (3 ≤ shape) × (shape ≤ 5) × (2 ≤ level) × (level ≤ 5) }
-    ensures { (result ≡ table_width shape (level - 2)) × (result < 256) }
+// `row_bytes` shows what this asks.
+fn bytes(row: [u64; 4]) -> u64
+    requires { (i : ℕ) → i < 4 → get_or row i 0 < 256 }
+    ensures { result ≡ pack 8 row }
 {
-    let i = (shape - 3) as usize;
-    let j = (level - 2) as usize;
-    WIDTHS[i][j]
+    row[0] + row[1] * 256 + row[2] * 65536 + row[3] * 16777216
 }
 
-// A row of the table as one number, a byte for each level, level 2 lowest. `entries_of` and `widths_of` show what these two ask.
-fn entry_bytes(shape: u64) -> u64
-    requires { (3 ≤ shape) × (shape ≤ 5) }
-    ensures { result ≡ entry_bytes shape }
-{
-    table_entries(shape, 2)
-        + table_entries(shape, 3) * 256
-        + table_entries(shape, 4) * 65536
-        + table_entries(shape, 5) * 16777216
-}
-
-fn width_bytes(shape: u64) -> u64
-    requires { (3 ≤ shape) × (shape ≤ 5) }
-    ensures { result ≡ width_bytes shape }
-{
-    table_width(shape, 2)
-        + table_width(shape, 3) * 256
-        + table_width(shape, 4) * 65536
-        + table_width(shape, 5) * 16777216
-}
-
-// The entries and the widths of the levels from 2 on. A good header shows what these ask. The table is read at a number that the compiler knows.
+// The entries and the widths of the levels from 2 on. A good header shows what these ask.
 pub fn entries_of(shape: u64) -> u64
     requires { (3 ≤ shape) × (shape ≤ 5) }
     ensures { result ≡ entry_bytes shape }
 {
-    if shape == 3 {
-        return entry_bytes(3);
-    }
-    if shape == 4 {
-        return entry_bytes(4);
-    }
-    entry_bytes(5)
+    row_bytes(&ENTRIES, shape)
 }
 
 pub fn widths_of(shape: u64) -> u64
     requires { (3 ≤ shape) × (shape ≤ 5) }
     ensures { result ≡ width_bytes shape }
 {
-    if shape == 3 {
-        return width_bytes(3);
-    }
-    if shape == 4 {
-        return width_bytes(4);
-    }
-    width_bytes(5)
+    row_bytes(&WIDTHS, shape)
 }
 
 // L. A good header shows what this asks, and the refusals of raise and of the limits call do.
@@ -116,13 +90,31 @@ impl Shape {
         requires { j < 8 }
         ensures { (result ≡ entries_at self j) × (result < 256) }
     {
-        (self.entries >> (8 * j)) % 256
+        byte(self.entries, j)
     }
 
     pub fn width_at(self, j: u64) -> u64
         requires { j < 8 }
         ensures { (result ≡ width_at self j) × (result < 256) }
     {
-        (self.widths >> (8 * j)) % 256
+        byte(self.widths, j)
     }
+
+    pub fn levels(self) -> Levels
+        ensures { result ≡ record { count = self.uppers; entries = self.entries; widths = self.widths } }
+    {
+        Levels {
+            count: self.uppers,
+            entries: self.entries,
+            widths: self.widths,
+        }
+    }
+}
+
+// Byte j of a number, the lowest counted as 0. `entries_at` and `width_at` show what this asks.
+fn byte(x: u64, j: u64) -> u64
+    requires { j < 8 }
+    ensures { (result ≡ x / 2 ^ (8 * j) % 256) × (result < 256) }
+{
+    (x >> (8 * j)) % 256
 }

@@ -8,11 +8,10 @@ use native.Mathlib.Omega.{arith}
 use lib.Dec.{leb, ltb, ltb→lt, lt→ltb}
 use lib.Pow.{pow-add, pow_mono, pow_pos, shr-shr}
 use borrow.Author.Tests.{le-leb, le-ltb}
+use Rattle.std.specs.Prelude.{Option, Some, None}
 use Rattle.model.specs.Lists.{sum, every}
 use Rattle.model.specs.Packed.{unpack, entry, bit}
 use Rattle.model.proofs.Tools.{bool_eq}
-use Rattle.uppers.specs.declared.Judged.{Judged}
-use Rattle.uppers.specs.declared.Judged.TheVariants.{Sound, Unsound}
 use Rattle.uppers.specs.Judge.{verdict, filled}
 
 -- ---- tests
@@ -101,10 +100,10 @@ judging w n cells marks = record { same = refl; adds = zero-add _ }
 
 module _ {w n cells marks total x m left : ℕ} (g : Judging w n cells marks total x m left) where
   -- the verdict on the whole level
-  abbrev found : Judged
+  abbrev found : Option ℕ
   found = verdict (filled w n cells marks) (sum (unpack w n cells))
 
-  pub empty : 0 < left → x % 2 ^ w + m % 2 ≡ 0 → Unsound ≡ found
+  pub empty : 0 < left → x % 2 ^ w + m % 2 ≡ 0 → None ≡ found
   empty h e = rw (g.same, filled_next w left x m h, e)
 
   pub next : 0 < left → 0 < x % 2 ^ w + m % 2 → Judging w n cells marks (total + x % 2 ^ w) (x / 2 ^ w) (m / 2) (left - 1)
@@ -116,10 +115,10 @@ module _ {w n cells marks total x m left : ℕ} (g : Judging w n cells marks tot
   pub total_small : 0 < left → n ≤ 64 → w ≤ 16 → total + x % 2 ^ w < 2 ^ 63
   total_small h k l = omega (arith, g.adds, sum-next w left x h, sum_small w n cells k l)
 
-  pub high-cells : left ≡ 0 → 0 < x → Unsound ≡ found
+  pub high-cells : left ≡ 0 → 0 < x → None ≡ found
   high-cells e h = rw (g.same, filled-cells w left x m e h)
 
-  pub all-judged : left ≡ 0 → x ≡ 0 → m ≡ 0 → Sound total ≡ found
+  pub all-judged : left ≡ 0 → x ≡ 0 → m ≡ 0 → Some total ≡ found
   all-judged e f h =
       let a : total ≡ sum (unpack w n cells) = let b = rw e at g.adds in omega arith in
-      rw (g.same, filled_none w left x m e f h) (ap Sound a)
+      rw (g.same, filled_none w left x m e f h) (ap Some a)

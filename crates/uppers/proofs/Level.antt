@@ -5,10 +5,9 @@ use native.Mathlib.Nat.{div-one, div-eq_of_lt, mul-one, mul-add, add-mul, zero-m
 use native.Mathlib.Numerals.{add-one}
 use native.Mathlib.Omega.{arith}
 use lib.Pow.{pow_mono, shr-shr, split, suc_ones}
+use Rattle.std.specs.Prelude.{Option, Some, None}
 use Rattle.model.specs.Lists.{sum}
 use Rattle.model.specs.Packed.{unpack, bit}
-use Rattle.uppers.specs.declared.Judged.{Judged}
-use Rattle.uppers.specs.declared.Judged.TheVariants.{Sound, Unsound}
 use Rattle.uppers.specs.Judge.{verdict, filled}
 use Rattle.uppers.proofs.Judging.{Judging, judging, empty, next, high-cells, all-judged}
 
@@ -34,10 +33,10 @@ ones_low : (w : ℕ) → 1 ≤ w → 1 ≤ 2 ^ w - 1
 ones_low w h = let e : 2 ^ 1 ≤ 2 ^ w = pow_mono h in omega arith
 
 module _ {w n cells marks x i above : ℕ} (g : Summing w n cells marks x i above) where
-  abbrev found : Judged
+  abbrev found : Option ℕ
   found = verdict (filled w n cells marks) (sum (unpack w n cells))
 
-  pub level-empty : i < n → x % 2 ^ w ≡ 0 → bit marks i ≡ 0 → Unsound ≡ found
+  pub level-empty : i < n → x % 2 ^ w ≡ 0 → bit marks i ≡ 0 → None ≡ found
   level-empty h e f = empty g.judging (omega arith) (omega (arith, e, f))
 
   pub level-next : i < n → 0 < x % 2 ^ w + bit marks i → Summing w n cells marks (x / 2 ^ w) (i + 1) (above + x / 2 ^ w)
@@ -64,10 +63,10 @@ module _ {w n cells marks x i above : ℕ} (g : Summing w n cells marks x i abov
   pub taken_le : (p : ℕ) → p ≡ 2 ^ w → above * (p - 1) ≤ cells
   taken_le p e = rw e (omega (arith, g.parts))
 
-  pub level-high : i ≡ n → 0 < x → Unsound ≡ found
+  pub level-high : i ≡ n → 0 < x → None ≡ found
   level-high e h = high-cells g.judging (omega arith) h
 
-  pub level-done : (p : ℕ) → p ≡ 2 ^ w → i ≡ n → x ≡ 0 → marks < 2 ^ n → Sound (cells - above * (p - 1)) ≡ found
+  pub level-done : (p : ℕ) → p ≡ 2 ^ w → i ≡ n → x ≡ 0 → marks < 2 ^ n → Some (cells - above * (p - 1)) ≡ found
   level-done p f e z m =
       let t : cells - above * (p - 1) ≡ g.total = rw f (omega (arith, g.parts)) in
-      ap Sound t ∙ all-judged g.judging (omega arith) z (rw e (div-eq_of_lt m))
+      ap Some t ∙ all-judged g.judging (omega arith) z (rw e (div-eq_of_lt m))

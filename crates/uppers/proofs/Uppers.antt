@@ -7,21 +7,22 @@ use native.Mathlib.Nat.{zero-mul, zero-add, zero-div, zero-mod, add-zero, mul-ze
 use native.Mathlib.Numerals.{add-one, sub-one}
 use native.Mathlib.Omega.{arith}
 use lib.Dec.{T, leb, ltb, eqb, ltb→lt, eqb-suc-zero}
-use lib.ListN.{get_or}
+use lib.ListN.{get_or, length, take, drop}
+use Rattle.std.specs.List.{list_all}
 use lib.Pow.{pow-add, pow_pos, pow_mono, shr-shr, split}
+use lib.Seq.{drop-cons}
 use lib.Count.{ones}
 use borrow.Author.Tests.{le-leb, lt-leb, le-ltb}
+use Rattle.std.specs.Prelude.{◌==◌, Option, Some, None}
 use Rattle.model.specs.Lists.{sum, every}
 use Rattle.model.specs.Packed.{unpack, entry, bit, rank}
 use Rattle.model.specs.Levels.{sound_levels}
 use Rattle.model.proofs.Packing.{rank-all}
 use Rattle.model.proofs.Tools.{and_tests}
-use Rattle.uppers.specs.declared.Judged.{Judged}
-use Rattle.uppers.specs.declared.Judged.TheVariants.{Sound, Unsound}
 use Rattle.uppers.specs.Judge.{verdict, filled, sum_levels}
 use Rattle.uppers.proofs.Verdicts.{said-sound, said-not}
 use Rattle.uppers.proofs.Judging.{sum_most}
-use Rattle.uppers.specs.Uppers.{rows_by, levels_by, marks_by, sound_by, sum_by, judged, zero_words, Ahead}
+use Rattle.uppers.specs.Uppers.{rows_by, levels_by, marks_by, sound_by, sum_by, judged, Ahead}
 
 -- ---- tests
 
@@ -40,7 +41,7 @@ and-true : (a : Bool) → a && true ≡ a
 and-true true = refl
 and-true false = refl
 
-some : (c : ℕ) → 0 < c → eqb c 0 ≡ false
+pub some : (c : ℕ) → 0 < c → eqb c 0 ≡ false
 some zero h = absurd (not-suc-le-zero h)
 some (suc c) h = eqb-suc-zero c
 
@@ -50,19 +51,9 @@ none (suc c) = le-ltb (suc c) 1 (omega arith) ∙ sym (eqb-suc-zero c)
 
 -- ---- words that are zero
 
-pub zero_end : (left : ℕ) (ws : List ℕ) (at : ℕ) → left ≡ 0 → zero_words left ws at ≡ true
-unfolding zero_words
-zero_end left ws at e = rw e
-
-pub zero-next : (left : ℕ) (ws : List ℕ) (at : ℕ) → 0 < left → get_or ws at 0 ≡ 0 → zero_words left ws at ≡ zero_words (left - 1) ws (at + 1)
-unfolding zero_words
-zero-next zero ws at h e = absurd (not-suc-le-zero h)
-zero-next (suc n) ws at h e = rw (e, sub-one, add-one)
-
-pub zero-some : (left : ℕ) (ws : List ℕ) (at : ℕ) → 0 < left → 0 < get_or ws at 0 → zero_words left ws at ≡ false
-unfolding zero_words
-zero-some zero ws at h e = absurd (not-suc-le-zero h)
-zero-some (suc n) ws at h e = rw (some (get_or ws at 0) e)
+pub all_zero_next : (n : ℕ) (ws : List ℕ) (at : ℕ) → at + suc n ≤ length ws
+    → list_all (λ x. x == 0) (take (suc n) (drop at ws)) ≡ eqb (get_or ws at 0) 0 && list_all (λ x. x == 0) (take n (drop (suc at) ws))
+all_zero_next n ws at h = rw (drop-cons ws at 0 (omega arith))
 
 -- ---- one level
 
@@ -118,37 +109,37 @@ module _ (ws : List ℕ) (at g e w n : ℕ) where
 -- ---- verdicts
 
 module _ (ws : List ℕ) (at g e w n t s : ℕ) where
-  pub judge_crowd : (left : ℕ) → 0 < left → e % 256 < n → Unsound ≡ judged left ws at g e w n t s
+  pub judge_crowd : (left : ℕ) → 0 < left → e % 256 < n → None ≡ judged left ws at g e w n t s
   judge_crowd left h k = rw (crowd ws at g e w n left h k)
 
   -- the verdict on this level alone, whose marks are m
-  abbrev pub alone : ℕ → Judged
+  abbrev pub alone : ℕ → Option ℕ
   alone m = verdict (filled (w % 256) n (get_or ws at 0) m) (sum (unpack (w % 256) n (get_or ws at 0)))
 
-  pub alone-sum : (m : ℕ) {x : ℕ} → alone m ≡ Sound x → x ≡ sum (unpack (w % 256) n (get_or ws at 0))
+  pub alone-sum : (m : ℕ) {x : ℕ} → alone m ≡ Some x → x ≡ sum (unpack (w % 256) n (get_or ws at 0))
   alone-sum m f = sym (said-sound (filled (w % 256) n (get_or ws at 0) m) (sum (unpack (w % 256) n (get_or ws at 0))) f).1
 
-  pub last-high : 0 < g → Unsound ≡ judged 1 ws at g e w n t s
+  pub last-high : 0 < g → None ≡ judged 1 ws at g e w n t s
   unfolding sound_by marks_by
   last-high h = rw (div-one, some g h, and-false)
 
   module _ (z : g ≡ 0) (k : n ≤ e % 256) where
-    pub last_stop : alone 0 ≡ Unsound → Unsound ≡ judged 1 ws at g e w n t s
+    pub last_stop : alone 0 ≡ None → None ≡ judged 1 ws at g e w n t s
     last_stop f = rw (last-sound ws at g e w n k, said-not (filled (w % 256) n (get_or ws at 0) 0) (sum (unpack (w % 256) n (get_or ws at 0))) f)
 
-    pub last_done : {x : ℕ} → alone 0 ≡ Sound x → Sound (s + x * 2 ^ t) ≡ judged 1 ws at g e w n t s
+    pub last_done : {x : ℕ} → alone 0 ≡ Some x → Some (s + x * 2 ^ t) ≡ judged 1 ws at g e w n t s
     last_done f =
         let b = said-sound (filled (w % 256) n (get_or ws at 0) 0) (sum (unpack (w % 256) n (get_or ws at 0))) f in
         rw (last-sound ws at g e w n k, last_sum ws at g e w n, b.0, b.1, z)
 
   module _ (left : ℕ) (h : 1 < left) (k : n ≤ e % 256) where
-    pub judge_marks : 2 ^ n ≤ g % 2 ^ (e % 256) → Unsound ≡ judged left ws at g e w n t s
+    pub judge_marks : 2 ^ n ≤ g % 2 ^ (e % 256) → None ≡ judged left ws at g e w n t s
     judge_marks f = rw (on_sound ws at g e w n left h k, filled-high (w % 256) n (get_or ws at 0) (g % 2 ^ (e % 256)) f)
 
-    pub judge_stop : alone (g % 2 ^ (e % 256)) ≡ Unsound → Unsound ≡ judged left ws at g e w n t s
+    pub judge_stop : alone (g % 2 ^ (e % 256)) ≡ None → None ≡ judged left ws at g e w n t s
     judge_stop f = rw (on_sound ws at g e w n left h k, said-not (filled (w % 256) n (get_or ws at 0) (g % 2 ^ (e % 256))) (sum (unpack (w % 256) n (get_or ws at 0))) f)
 
-    pub judge_on : {x : ℕ} → alone (g % 2 ^ (e % 256)) ≡ Sound x
+    pub judge_on : {x : ℕ} → alone (g % 2 ^ (e % 256)) ≡ Some x
         → judged left ws at g e w n t s ≡ judged (left - 1) ws (at + 1) (g / 2 ^ (e % 256)) (e / 256) (w / 256) (ones (g % 2 ^ (e % 256))) (t + w % 256) (s + x * 2 ^ t)
     judge_on {x} f =
         let m : ℕ = g % 2 ^ (e % 256) in
@@ -175,12 +166,11 @@ unfolding sum_by sum_levels rows_by levels_by
 sum-empty zero ws at g e w = refl
 sum-empty (suc n) ws at g e w = rw (sum-empty n ws (suc at) (g / 2 ^ (e % 256)) (e / 256) (w / 256), zero-mul)
 
-empty-zero : (left : ℕ) (ws : List ℕ) (at e w : ℕ) → 0 < left → sound_by left ws at 0 e w 0 ≡ zero_words left ws at
-unfolding zero_words
-empty-zero zero ws at e w h = absurd (not-suc-le-zero h)
-empty-zero (suc zero) ws at e w h = rw (last-sound ws at 0 e w 0 zero-le, filled-empty, and-true)
-empty-zero (suc (suc n)) ws at e w h =
-    rw (on_sound ws at 0 e w 0 (suc (suc n)) (omega arith) zero-le, sub-one, add-one, zero-mod, zero-div, filled-empty, empty-zero (suc n) ws (suc at) (e / 256) (w / 256) (omega arith), and-true)
+empty-zero : (left : ℕ) (ws : List ℕ) (at e w : ℕ) → 0 < left → at + left ≤ length ws → sound_by left ws at 0 e w 0 ≡ list_all (λ x. x == 0) (take left (drop at ws))
+empty-zero zero ws at e w h l = absurd (not-suc-le-zero h)
+empty-zero (suc zero) ws at e w h l = rw (last-sound ws at 0 e w 0 zero-le, filled-empty, and-true, all_zero_next 0 ws at l)
+empty-zero (suc (suc n)) ws at e w h l =
+    rw (on_sound ws at 0 e w 0 (suc (suc n)) (omega arith) zero-le, sub-one, add-one, zero-mod, zero-div, filled-empty, empty-zero (suc n) ws (suc at) (e / 256) (w / 256) (omega arith) (omega arith), and-true, all_zero_next (suc n) ws at l)
 
 -- a number above zero has a digit above zero
 either : (a : Bool) (m q p : ℕ) (b : Bool) → 0 < q * p + m → (0 < q → b ≡ false) → (a && (eqb m 0 && true)) && b ≡ false
@@ -197,10 +187,10 @@ empty-some (suc (suc n)) ws at g e w h k =
     (omega (arith, split g (e % 256))) (empty-some (suc n) ws (suc at) (g / 2 ^ (e % 256)) (e / 256) (w / 256) (omega arith)))
 
 module _ (left : ℕ) (ws : List ℕ) (at g e w n t s : ℕ) (h : 0 < left) (z : n ≡ 0) where
-  pub judge_none : g ≡ 0 → verdict (zero_words left ws at) s ≡ judged left ws at g e w n t s
-  judge_none y = rw (y, z, empty-zero left ws at e w h, sum-empty left ws at 0 e w, zero-mul, add-zero)
+  pub judge_none : at + left ≤ length ws → g ≡ 0 → verdict (list_all (λ x. x == 0) (take left (drop at ws))) s ≡ judged left ws at g e w n t s
+  judge_none l y = rw (y, z, empty-zero left ws at e w h l, sum-empty left ws at 0 e w, zero-mul, add-zero)
 
-  pub judge_high : 0 < g → Unsound ≡ judged left ws at g e w n t s
+  pub judge_high : 0 < g → None ≡ judged left ws at g e w n t s
   judge_high k = rw (z, empty-some left ws at g e w h k)
 
 -- ---- the sum stays within a word
@@ -233,7 +223,7 @@ ahead_last zero e w t h a = absurd (not-suc-le-zero h)
 ahead_last (suc l) e w t h a = (a.0, a.1, a.2)
 
 -- it stands at a level under the marks m, with left levels ahead: the verdict on the whole is that on these, with the sum s so far
-pub record Walk (ws : List ℕ) (whole : Judged) (end at m g left e w t s : ℕ) : Type 0 where
+pub record Walk (ws : List ℕ) (whole : Option ℕ) (end at m g left e w t s : ℕ) : Type 0 where
   pub some : 0 < left
   pub few : left ≤ 4
   pub place : at + left ≡ end
@@ -244,14 +234,23 @@ pub record Walk (ws : List ℕ) (whole : Judged) (end at m g left e w t s : ℕ)
 pub walk : (ws : List ℕ) (at m g left e w t : ℕ) → 1 ≤ left → left ≤ 4 → Ahead left e w t → Walk ws (judged left ws at g e w (ones m) t 0) (at + left) at m g left e w t 0
 walk ws at m g left e w t h k a = record { some = h; few = k; place = refl; ahead = a; low = omega (arith, pow_pos t); same = refl }
 
-module _ {ws : List ℕ} {whole : Judged} {end at m g left e w t s : ℕ} (k : Walk ws whole end at m g left e w t s) where
+module _ {ws : List ℕ} {whole : Option ℕ} {end at m g left e w t s : ℕ} (k : Walk ws whole end at m g left e w t s) where
+  pub going : at < end - 1 → 1 < left
+  going h = omega (arith, k.some, k.place, h)
+
+  pub stopped : end - 1 ≤ at → (1 ≡ left) × (at ≡ end - 1)
+  stopped h = (omega (arith, k.some, k.place), omega (arith, k.some, k.place))
+
+  pub ahead_words : end - 1 + 1 - at ≡ left
+  ahead_words = omega (arith, k.some, k.place)
+
   pub here : 1 < left → (1 ≤ w % 256) × (w % 256 ≤ 16) × (t + w % 256 ≤ 47) × (e % 256 < 64)
   here h = let a = ahead_on left e w t h k.ahead in (a.0, a.1, a.2, a.3)
 
   pub at_last : (1 ≤ w % 256) × (w % 256 ≤ 16) × (t + w % 256 ≤ 47)
   at_last = ahead_last left e w t k.some k.ahead
 
-  pub walk_on : 1 < left → ones m ≤ e % 256 → ones m ≤ 64 → {x : ℕ} → alone ws at g e w (ones m) t s (g % 2 ^ (e % 256)) ≡ Sound x
+  pub walk_on : 1 < left → ones m ≤ e % 256 → ones m ≤ 64 → {x : ℕ} → alone ws at g e w (ones m) t s (g % 2 ^ (e % 256)) ≡ Some x
       → Walk ws whole end (at + 1) (g % 2 ^ (e % 256)) (g / 2 ^ (e % 256)) (left - 1) (e / 256) (w / 256) (t + w % 256) (s + x * 2 ^ t)
   walk_on h n b {x} f =
       let sums = alone-sum ws at g e w (ones m) t s (g % 2 ^ (e % 256)) f in
@@ -263,3 +262,11 @@ module _ {ws : List ℕ} {whole : Judged} {end at m g left e w t s : ℕ} (k : W
         low = rw sums (more (w % 256) (ones m) (get_or ws at 0) t s b k.low);
         same = sym (judge_on ws at g e w (ones m) t s left h n f) ∙ k.same;
       }
+
+  -- one level more, with the numbers as the code has them: y is the verdict on the level's own entries
+  pub walk_step : at < end - 1 → (n u v p q x : ℕ) (y : Option ℕ) → n ≡ ones m → n ≤ 64 → u ≡ e % 256 → v ≡ w % 256 → n ≤ u → p ≡ 2 ^ u → q ≡ 2 ^ t
+      → y ≡ verdict (filled v n (get_or ws at 0) (g % p)) (sum (unpack v n (get_or ws at 0))) → y ≡ Some x
+      → Walk ws whole end (at + 1) (g % p) (g / 2 ^ u) (left - 1) (e / 256) (w / 256) (t + v) (s + x * q)
+  walk_step h n u v p q x y en b eu ev r ep eq says is =
+      let f : alone ws at g e w (ones m) t s (g % 2 ^ (e % 256)) ≡ Some x = rw (ep, ev, en, eu) at (sym says ∙ is) in
+      rw (ep, eq, ev, eu) (walk_on (going h) (rw (en, eu) at r) (rw en at b) f)

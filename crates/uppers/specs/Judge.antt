@@ -1,15 +1,13 @@
 -- The verdict on the upper levels of a bucket, and the sum of their parts.
-use Rattle.std.specs.Prelude.{Bool, true, false, ◌&&◌, List, [], ◌∷◌, ℕ, ◌+◌, ◌*◌, ◌^◌, leb, ltb}
+use Rattle.std.specs.Prelude.{Bool, true, false, ◌&&◌, List, [], ◌∷◌, ℕ, ◌+◌, ◌*◌, ◌^◌, leb, ltb, Option, Some, None}
 use Rattle.model.specs.Lists.{every, sum}
 use Rattle.model.specs.Packed.{unpack, entry, bit, rank}
 use Rattle.model.specs.Shapes.{Row}
 use Rattle.model.specs.Levels.{Level}
-use Rattle.uppers.specs.declared.Judged.{Judged}
-use Rattle.uppers.specs.declared.Judged.TheVariants.{Sound, Unsound}
 
-abbrev pub verdict : Bool → ℕ → Judged
-verdict true n = Sound n
-verdict false n = Unsound
+abbrev pub verdict : Bool → ℕ → Option ℕ
+verdict true n = Some n
+verdict false n = None
 
 -- n entries of width w are used, each nonzero or going on, and nothing is set above them: the tests of one level in sound_levels
 unfoldable pub filled : ℕ → ℕ → ℕ → ℕ → Bool

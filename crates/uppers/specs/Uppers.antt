@@ -1,8 +1,7 @@
 -- The upper levels of a bucket where they lie in the words of a wall; entries and widths of a shape are bytes of a number each, level 2 lowest.
-use Rattle.std.specs.Prelude.{Bool, true, ◌&&◌, List, [], ◌∷◌, ℕ, zero, suc, ◌+◌, ◌*◌, ◌/◌, ◌%◌, ◌^◌, ◌≤◌, ◌<◌, eqb, get_or}
+use Rattle.std.specs.Prelude.{Bool, ◌&&◌, List, [], ◌∷◌, ℕ, zero, suc, ◌+◌, ◌*◌, ◌/◌, ◌%◌, ◌^◌, ◌≤◌, ◌<◌, eqb, get_or, Option}
 use Rattle.model.specs.Shapes.{Row, row}
 use Rattle.model.specs.Levels.{Level, level, read_at, sound_levels}
-use Rattle.uppers.specs.declared.Judged.{Judged}
 use Rattle.uppers.specs.Judge.{verdict, sum_levels}
 
 -- the rows of n levels
@@ -34,17 +33,12 @@ unfoldable pub sum_by : ℕ → List ℕ → ℕ → ℕ → ℕ → ℕ → ℕ
 sum_by left ws at g e w n = sum_levels (rows_by left e w) n (levels_by left ws at g e)
 
 -- the verdict on them, with their parts at weight 2 ^ t added to s
-abbrev pub judged : ℕ → List ℕ → ℕ → ℕ → ℕ → ℕ → ℕ → ℕ → ℕ → Judged
+abbrev pub judged : ℕ → List ℕ → ℕ → ℕ → ℕ → ℕ → ℕ → ℕ → ℕ → Option ℕ
 judged left ws at g e w n t s = verdict (sound_by left ws at g e w n) (s + sum_by left ws at g e w n * 2 ^ t)
 
 -- what the counter at entry a has in them
 unfoldable pub read_by : ℕ → List ℕ → ℕ → ℕ → ℕ → ℕ → ℕ → ℕ
 read_by left ws at g e w a = read_at (rows_by left e w) (levels_by left ws at g e) a
-
--- the words of n levels are zero
-unfoldable pub zero_words : ℕ → List ℕ → ℕ → Bool
-zero_words zero ws at = true
-zero_words (suc n) ws at = eqb (get_or ws at 0) 0 && zero_words n ws (suc at)
 
 -- what a walk over n levels from weight t on asks of the shape: a level that is not the last has marks in a word, and L stays within a word
 abbrev pub MarksFit : ℕ → ℕ → Type 0

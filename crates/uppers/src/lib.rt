@@ -1,138 +1,91 @@
 // Whether the levels of a bucket above level 1 are sound, and what its counts have there, read where they lie in the words of a wall.
 #![tactic(auto)]
 
-ghost use Rattle.std.specs.Prelude.{◌≡◌, ◌+◌, ◌*◌, ◌%◌, ◌≤◌, ◌<◌, ◌^◌, length, [], ◌∷◌};
+ghost use Rattle.std.specs.Prelude.{◌≡◌, ◌==◌, ◌+◌, ◌*◌, ◌%◌, ◌≤◌, ◌<◌, ◌^◌, length, [], ◌∷◌};
+ghost use Rattle.std.specs.List.{list_all};
 ghost use Rattle.std.specs.Int.Count.{ones};
 ghost use Rattle.model.specs.Lists.{sum};
 ghost use Rattle.model.specs.Packed.{unpack};
 ghost use Rattle.uppers.specs.Judge.{verdict, filled};
-ghost use Rattle.uppers.specs.Uppers.{Ahead, judged, zero_words};
+ghost use Rattle.uppers.specs.Uppers.{Ahead, judged};
 
-// What judging finds: a number that the judge was asked for, if what it judged is sound.
-#[derive(Clone, Copy)]
-pub enum Judged {
-    Sound(u64),
-    Unsound,
-}
+use shapes::{Levels, Shape};
 
 // One level of which n entries are used. Each x is the entries from one on; the sum of the entries is what is left of the first x when all the others
 // are taken off, each 2 ^ w - 1 times. `judge` shows what this asks.
-fn judge_level(cells: u64, marks: u64, w: u64, n: u64) -> Judged
+fn judge_level(cells: u64, marks: u64, w: u64, n: u64) -> Option<u64>
     requires { (1 ≤ w) × (w ≤ 16) × (n ≤ 64) × (marks < 2 ^ n) }
     ensures { result ≡ verdict (filled w n cells marks) (sum (unpack w n cells)) }
 {
     let p = packed::pow2(w);
     let mut x = cells;
-    let mut i: u64 = 0;
     let mut above: u64 = 0;
-    while i < n {
-        if x % p == 0 {
-            if packed::bit(marks, i) == 0 {
-                return Judged::Unsound;
-            }
+    for i in 0..n {
+        if x % p == 0 && packed::bit(marks, i) == 0 {
+            return None;
         }
-        x = x >> w;
+        x >>= w;
         above += x;
-        i += 1;
     }
     if 0 < x {
-        return Judged::Unsound;
+        return None;
     }
-    Judged::Sound(cells - above * (p - 1))
+    Some(cells - above * (p - 1))
 }
 
-// No counter is in these levels: their words are zero. `judge` shows that they are there.
-fn judge_empty(words: &[u64], first: usize, n: usize, sum: u64) -> Judged
-    requires { first + n ≤ length words.now }
-    ensures { result ≡ verdict (zero_words n words.now first) sum }
+// `judge` reads levels by it that no counter is in.
+fn all_zero(words: &[u64]) -> bool
+    ensures { result ≡ list_all (λ x. x == 0) words.now }
 {
-    let mut at = first;
-    let mut left = n;
-    while 0 < left {
-        if 0 < words[at] {
-            return Judged::Unsound;
-        }
-        at += 1;
-        left -= 1;
-    }
-    Judged::Sound(sum)
+    words.iter().all(|w| *w == 0)
 }
 
-// The upper levels, whose words begin at `first`, under the marks m1 of level 1; g has their own marks, and bytes of e and ws are their entries and widths.
+// The upper levels, whose words begin at `first`, under the marks m1 of level 1; g has their own marks.
 // Who read the wall's header knows that the shape is valid and that the words are there.
-pub fn judge(
-    words: &[u64],
-    first: usize,
-    m1: u64,
-    g: u64,
-    width: u64,
-    uppers: u64,
-    e: u64,
-    ws: u64,
-) -> Judged
-    requires { Ahead uppers e ws width × (1 ≤ uppers) × (uppers ≤ 4) × (first + uppers ≤ length words.now) }
-    ensures { result ≡ judged uppers words.now first g e ws (ones m1) width 0 }
+pub fn judge(words: &[u64], first: usize, m1: u64, g: u64, shape: Shape) -> Option<u64>
+    requires { Ahead shape.uppers shape.entries shape.widths shape.width × (1 ≤ shape.uppers) × (shape.uppers ≤ 4) × (first + shape.uppers ≤ length words.now) }
+    ensures { result ≡ judged shape.uppers words.now first g shape.entries shape.widths (ones m1) shape.width 0 }
 {
-    let mut at = first;
+    let last = first + shape.uppers as usize - 1;
+    let mut levels = shape.levels();
     let mut m = m1;
     let mut marks = g;
-    let mut left = uppers;
-    let mut entries = e;
-    let mut widths = ws;
-    let mut weight = width;
+    let mut weight = shape.width;
     let mut sum: u64 = 0;
-    while 1 < left {
+    for at in first..last {
         if m == 0 {
-            if 0 < marks {
-                return Judged::Unsound;
-            }
-            return judge_empty(words, at, left as usize, sum);
+            return (marks == 0 && all_zero(&words[at..last + 1])).then_some(sum);
         }
         let n = packed::count(m);
-        let k = entries % 256;
-        let w = widths % 256;
+        let k = levels.entries();
+        let w = levels.width();
         if k < n {
-            return Judged::Unsound;
+            return None;
         }
         m = marks % packed::pow2(k);
         if packed::pow2(n) <= m {
-            return Judged::Unsound;
+            return None;
         }
-        let Judged::Sound(own) = judge_level(words[at], m, w, n) else {
-            return Judged::Unsound;
-        };
+        let own = judge_level(words[at], m, w, n)?;
         sum += own * packed::pow2(weight);
-        at += 1;
-        marks = marks >> k;
-        left -= 1;
-        entries = entries >> 8;
-        widths = widths >> 8;
+        marks >>= k;
+        levels = levels.above();
         weight += w;
     }
-    judge_last(
-        words[at],
-        packed::count(m),
-        marks,
-        entries,
-        widths,
-        weight,
-        sum,
-    )
+    judge_last(words[last], packed::count(m), marks, levels, weight, sum)
 }
 
 // The last level has no marks. `judge` shows what this asks.
-fn judge_last(cells: u64, n: u64, g: u64, e: u64, ws: u64, weight: u64, sum: u64) -> Judged
-    requires { (1 ≤ ws % 256) × (ws % 256 ≤ 16) × (n ≤ 64) × (weight + ws % 256 ≤ 47) × (sum + 64 ≤ 64 * 2 ^ weight) }
-    ensures { result ≡ judged 1 (cells ∷ []) 0 g e ws n weight sum }
+fn judge_last(cells: u64, n: u64, g: u64, levels: Levels, weight: u64, sum: u64) -> Option<u64>
+    requires { (1 ≤ levels.widths % 256) × (levels.widths % 256 ≤ 16) × (n ≤ 64) × (weight + levels.widths % 256 ≤ 47) × (sum + 64 ≤ 64 * 2 ^ weight) }
+    ensures { result ≡ judged 1 (cells ∷ []) 0 g levels.entries levels.widths n weight sum }
 {
     if 0 < g {
-        return Judged::Unsound;
+        return None;
     }
-    if e % 256 < n {
-        return Judged::Unsound;
+    if levels.entries() < n {
+        return None;
     }
-    let Judged::Sound(own) = judge_level(cells, 0, ws % 256, n) else {
-        return Judged::Unsound;
-    };
-    Judged::Sound(sum + own * packed::pow2(weight))
+    let own = judge_level(cells, 0, levels.width(), n)?;
+    Some(sum + own * packed::pow2(weight))
 }

@@ -4,7 +4,7 @@ use native.Mathlib.Omega.{arith}
 use Rattle.model.specs.Packed.{bit}
 use Rattle.uppers.proofs.Level.{some_left, some_right, Summing, summing, level-empty, level-next, above_le, taken_le, level-high, level-done}
 use Rattle.uppers.proofs.judge_level.Goals as goal
-use Rattle.uppers.proofs.judge_level.Goals.{then-x-p-eq0+else-bit-eq0, else-x-p-eq0}
+use Rattle.uppers.proofs.judge_level.Goals.{else-x-p-eq0-via-then-x-p-eq0+else-bit-eq0, else-x-p-eq0-via-else-x-p-eq0}
 
 pub loop-i-init : goal.loop-i-init
 loop-i-init c = let a = c.args in summing a.w a.n a.cells a.marks
@@ -12,17 +12,17 @@ loop-i-init c = let a = c.args in summing a.w a.n a.cells a.marks
 pub returns-then-bit-eq0 : goal.returns-then-bit-eq0
 returns-then-bit-eq0 c = level-empty c.loop-i.invariant c.loop-i-test.true (rw c.pow2-p.ensures.0 at c.if-x-p-eq0.true) (sym c.bit.ensures ∙ c.if-bit-eq0.true)
 
-kept : (c : goal.Joined-x-p-eq0) → 0 < c.loop-i.x % 2 ^ c.args.w + bit c.args.marks c.loop-i.i
+kept : (c : goal.Joined-else-x-p-eq0) → 0 < c.loop-i.x % 2 ^ c.args.w + bit c.args.marks c.loop-i.i
 kept c =
     let l = c.loop-i in
     let a = c.args in
     let p = c.pow2-p in
-    elim c.if-x-p-eq0.branch [
-      | then-x-p-eq0+else-bit-eq0 w ↦ some_right (l.x % 2 ^ a.w) (bit a.marks l.i) w.bit.result w.bit.ensures w.if-bit-eq0.false
-      | else-x-p-eq0 w ↦ some_left (l.x % 2 ^ a.w) (bit a.marks l.i) (rw p.ensures.0 at w.if-x-p-eq0.false)
+    elim c.else-x-p-eq0.branch [
+      | else-x-p-eq0-via-then-x-p-eq0+else-bit-eq0 w ↦ some_right (l.x % 2 ^ a.w) (bit a.marks l.i) w.bit.result w.bit.ensures w.if-bit-eq0.false
+      | else-x-p-eq0-via-else-x-p-eq0 w ↦ some_left (l.x % 2 ^ a.w) (bit a.marks l.i) (rw p.ensures.0 at w.if-x-p-eq0.false)
     ]
 
-more : (c : goal.Joined-x-p-eq0) → let a = c.args in let l = c.loop-i in Summing a.w a.n a.cells a.marks (l.x / 2 ^ a.w) (l.i + 1) (l.above + l.x / 2 ^ a.w)
+more : (c : goal.Joined-else-x-p-eq0) → let a = c.args in let l = c.loop-i in Summing a.w a.n a.cells a.marks (l.x / 2 ^ a.w) (l.i + 1) (l.above + l.x / 2 ^ a.w)
 more c = level-next c.loop-i.invariant c.loop-i-test.true (kept c)
 
 pub overflow_add-above : goal.overflow_add-above
