@@ -9,8 +9,6 @@ use lib.Pow.{pow_mono, shr-shr, shr_lt}
 use native.Mathlib.Nat.{mul-le-mul, mod-eq_of_lt}
 use lib.ListN.{length}
 use Rattle.std.specs.Prelude.{Option, Some, None, Result, Err, option_map, ok_or}
-use Rattle.answer.specs.declared.Refusal.{Refusal}
-use Rattle.answer.specs.declared.Refusal.TheVariants.{BadHeader}
 use Rattle.model.specs.Lists.{choose}
 use Rattle.model.specs.Shapes.{known_shape, valid_width, rows_of}
 use Rattle.model.specs.Slots.{known_bits, valid_spread}
@@ -155,7 +153,7 @@ good-known ws g =
     let l = g.limits in
     record { shape_low = l.shape_low; shape_high = l.shape_high; width_low = l.width_low; width_high = l.width_high; bits_low = l.bits_low; bits_high = l.bits_high }
 
--- where a call ends because no header is opened, it refuses with 7, which is met
-pub unopened : {X : Type 0} (f : X → Wall) (o : Option X) (ws : List ℕ) (r : Refusal) → option_map f o ≡ opened_of ws → ◌≡◌ {A = Result X Refusal} (Err r) (ok_or o BadHeader) → (r ≡ BadHeader) × T (not (good ws))
-unopened f None ws r e h = (cc, not_opened ws e)
-unopened f (Some o) ws r e h = let z : ◌≡◌ {A = ℕ} 0 1 = cc in absurd (omega arith)
+-- where a call ends because no header is opened, with the error b, the words are not good
+pub unopened : {X E : Type 0} (f : X → Wall) (o : Option X) (ws : List ℕ) (r b : E) → option_map f o ≡ opened_of ws → ◌≡◌ {A = Result X E} (Err r) (ok_or o b) → (r ≡ b) × T (not (good ws))
+unopened f None ws r b e h = (cc, not_opened ws e)
+unopened f (Some o) ws r b e h = let z : ◌≡◌ {A = ℕ} 0 1 = cc in absurd (omega arith)

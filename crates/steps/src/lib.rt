@@ -1,13 +1,13 @@
 #![tactic(auto)]
 
 ghost use Rattle.std.specs.Prelude.{◌≡◌, [], ◌∷◌, ◌≤◌, ◌<◌, ◌^◌, get_or, length, set};
-ghost use Rattle.answer.specs.Answers.{outcome_of};
+ghost use Rattle.answer.specs.Answers.{outcome_of, answer_of};
 ghost use Rattle.model.specs.Packed.{join_fields};
 ghost use Rattle.model.specs.Walls.{full_fields, parse};
 ghost use Rattle.model.specs.Sound.{bucket_at, counts_at, flag};
 ghost use Rattle.steps.specs.Step.{Ready, step_in};
 
-use answer::Answer;
+use answer::Refusal;
 use layout::Wall;
 use shapes::Shape;
 
@@ -22,9 +22,16 @@ pub fn put_totals(words: &mut [u64], v: Wall, total: u64, used: u64)
 
 // Place `at` of bucket i, which has no flag, comes to a count that carries: its levels have room for it, or the bucket overflows into
 // full-size bucket U. `step_plain` shows what this asks.
-fn step_carry(words: &mut [u64], v: Wall, i: u64, at: u64, count: u64, total: u64) -> Answer
+fn step_carry(
+    words: &mut [u64],
+    v: Wall,
+    i: u64,
+    at: u64,
+    count: u64,
+    total: u64,
+) -> Result<u64, Refusal>
     requires { Ready words.old v i at count × (flag (bucket_at (parse words.old) i) ≡ 0) }
-    ensures { outcome_of result words.new ≡ step_in words.old i at count total }
+    ensures { outcome_of (answer_of result) words.new ≡ step_in words.old i at count total }
 {
     let start = header::bucket_at(v, i);
     let shape = Shape::of(v.shape, v.width);
@@ -32,15 +39,15 @@ fn step_carry(words: &mut [u64], v: Wall, i: u64, at: u64, count: u64, total: u6
     if bucket.room(shape, at, count) {
         bucket.raise(shape, at, count).store(words, start, shape);
         put_totals(words, v, total, v.used);
-        return Answer::done(count);
+        return Ok(count);
     }
     if v.used == v.full {
-        return Answer::refused(12);
+        return Err(Refusal::NoFull);
     }
     bucket.overflow(v.used).store(words, start, shape);
     moves::move_first(words, header::full_at(v, v.used), at, count);
     put_totals(words, v, total, v.used + 1);
-    Answer::done(count)
+    Ok(count)
 }
 
 // The same where the count may carry or not: `was` is the count before. `increment::one_more_plain` shows what this asks.
@@ -52,15 +59,15 @@ pub fn step_plain(
     was: u64,
     count: u64,
     total: u64,
-) -> Answer
+) -> Result<u64, Refusal>
     requires { Ready words.old v i at count × (was ≡ get_or (counts_at (parse words.old) i) at 0) × (flag (bucket_at (parse words.old) i) ≡ 0) }
-    ensures { outcome_of result words.new ≡ step_in words.old i at count total }
+    ensures { outcome_of (answer_of result) words.new ≡ step_in words.old i at count total }
 {
     if count >> v.width == was >> v.width {
         let shape = Shape::of(v.shape, v.width);
         parts::step_first(words, header::bucket_at(v, i), shape, at, count);
         put_totals(words, v, total, v.used);
-        return Answer::done(count);
+        return Ok(count);
     }
     step_carry(words, v, i, at, count, total)
 }

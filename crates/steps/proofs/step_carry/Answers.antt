@@ -3,7 +3,6 @@ use Rattle.header.proofs.Places.{open_good, open_known, open_limits, open_spread
 use Rattle.bucket.specs.Raise.{RaisesIn}
 use Rattle.bucket.specs.Views.{as_bucket}
 use Rattle.shapes.specs.Shapes.{rows_in}
-use Rattle.answer.proofs.Said.{said}
 use Rattle.model.specs.Calls.{holding}
 use Rattle.model.specs.Sound.{bucket_at, own_counts}
 use Rattle.model.specs.Walls as model
@@ -22,9 +21,6 @@ pub bucket_at-start-requires : goal.bucket_at-start-requires
 bucket_at-start-requires c =
     let ws = c.args.words.now in
     let v = c.args.v in
-    let i = c.args.i in
-    let a = c.args.at in
-    let n = c.args.count in
     let r = c.requires.0 in
     (open_known ws v r.header, r.bucket)
 
@@ -32,9 +28,6 @@ pub of-shape-requires : goal.of-shape-requires
 of-shape-requires c =
     let ws = c.args.words.now in
     let v = c.args.v in
-    let i = c.args.i in
-    let a = c.args.at in
-    let n = c.args.count in
     let r = c.requires.0 in
     let k = open_known ws v r.header in
     (k.shape_low, k.shape_high)
@@ -101,9 +94,6 @@ pub put_totals-requires : goal.put_totals-requires
 put_totals-requires c =
     let ws = c.args.words.now in
     let v = c.args.v in
-    let i = c.args.i in
-    let a = c.args.at in
-    let n = c.args.count in
     let r = c.requires.0 in
     let l = open_limits ws v r.header in
     (omega (arith, (open_good ws v r.header).long, c.store.auto.words), l.full_most, omega (arith, l.full_most, l.spare_full), open_spread ws v r.header)
@@ -121,7 +111,7 @@ returns-then-room c =
     let at = c.bucket_at-start.result in
     let q = c.bucket_at-start.ensures in
     let k : as_bucket z c.take-bucket.result ≡ bucket_at (parse ws) i = c.take-bucket.ensures ∙ lies ws v i a n r z es at q in
-    said c.done.result 0 n c.put_totals.new.words c.done.ensures ∙ ap (λ (x : List ℕ). record { number = 0; value = n; words = x }) c.put_totals.ensures
+    ap (λ (x : List ℕ). record { number = 0; value = n; words = x }) c.put_totals.ensures
     ∙ step_held ws v i a n r c.args.total (c.slice_known-1.given 0).fits c.store.new.words at (as_bucket z c.raise.result) c.requires.1 (room_found ws v i a n r z es c.room.result (c.room.ensures ∙ ap (λ (b : model.Bucket). not (crowded z.width (rows_in z) (set (own_counts z.width (rows_in z) b) a n))) k) c.if-room.true) q
     (held_of ws v i a n r z es (as_bucket z c.raise.result) (c.raise.ensures ∙ ap (λ (b : model.Bucket). holding z.width (rows_in z) (set (own_counts z.width (rows_in z) b) a n)) k)) c.store.ensures
 
@@ -138,16 +128,12 @@ returns-then-v c =
     let at = c.bucket_at-start.result in
     let q = c.bucket_at-start.ensures in
     let k : as_bucket z c.take-bucket.result ≡ bucket_at (parse ws) i = c.take-bucket.ensures ∙ lies ws v i a n r z es at q in
-    said c.refused.result 12 0 ws c.refused.ensures
-    ∙ step-twelve ws v i a n r c.args.total (c.slice_known-1.given 0).fits c.requires.1 (none_found ws v i a n r z es c.room.result (c.room.ensures ∙ ap (λ (b : model.Bucket). not (crowded z.width (rows_in z) (set (own_counts z.width (rows_in z) b) a n))) k) c.if-room.false) c.if-v.true
+    step-twelve ws v i a n r c.args.total (c.slice_known-1.given 0).fits c.requires.1 (none_found ws v i a n r z es c.room.result (c.room.ensures ∙ ap (λ (b : model.Bucket). not (crowded z.width (rows_in z) (set (own_counts z.width (rows_in z) b) a n))) k) c.if-room.false) c.if-v.true
 
 pub overflow-requires : goal.overflow-requires
 overflow-requires c =
     let ws = c.args.words.now in
     let v = c.args.v in
-    let i = c.args.i in
-    let a = c.args.at in
-    let n = c.args.count in
     let r = c.requires.0 in
     let l = open_limits ws v r.header in
     omega (arith, l.full_most, l.spare_full)
@@ -170,9 +156,6 @@ pub full_at-requires : goal.full_at-requires
 full_at-requires c =
     let ws = c.args.words.now in
     let v = c.args.v in
-    let i = c.args.i in
-    let a = c.args.at in
-    let n = c.args.count in
     let r = c.requires.0 in
     let l = open_limits ws v r.header in
     (open_known ws v r.header, omega (arith, l.full_most, l.spare_full, c.if-v.false))
@@ -181,9 +164,6 @@ pub move_first-requires : goal.move_first-requires
 move_first-requires c =
     let ws = c.args.words.now in
     let v = c.args.v in
-    let i = c.args.i in
-    let a = c.args.at in
-    let n = c.args.count in
     let r = c.requires.0 in
     let l = open_limits ws v r.header in
     (omega (arith, full-within ws v r.header v.used (omega (arith, l.spare_full, c.if-v.false)), c.full_at.ensures, c.store-2.auto.words), r.place)
@@ -192,9 +172,6 @@ pub put_totals-requires-2 : goal.put_totals-requires-2
 put_totals-requires-2 c =
     let ws = c.args.words.now in
     let v = c.args.v in
-    let i = c.args.i in
-    let a = c.args.at in
-    let n = c.args.count in
     let r = c.requires.0 in
     let l = open_limits ws v r.header in
     (omega (arith, (open_good ws v r.header).long, c.store-2.auto.words, c.move_first.auto.words), l.full_most, omega (arith, l.full_most, l.spare_full, c.if-v.false), open_spread ws v r.header)
@@ -213,6 +190,6 @@ returns c =
     let q = c.bucket_at-start.ensures in
     let k : as_bucket z c.take-bucket.result ≡ bucket_at (parse ws) i = c.take-bucket.ensures ∙ lies ws v i a n r z es at q in
     let y = c.overflow in
-    said c.done-2.result 0 n c.put_totals-2.new.words c.done-2.ensures ∙ ap (λ (x : List ℕ). record { number = 0; value = n; words = x }) c.put_totals-2.ensures
+    ap (λ (x : List ℕ). record { number = 0; value = n; words = x }) c.put_totals-2.ensures
     ∙ step_over ws v i a n r c.args.total (c.slice_known-1.given 0).fits c.store-2.new.words c.move_first.new.words at c.full_at.result (as_bucket z y.result) c.requires.1 (none_found ws v i a n r z es c.room.result (c.room.ensures ∙ ap (λ (b : model.Bucket). not (crowded z.width (rows_in z) (set (own_counts z.width (rows_in z) b) a n))) k) c.if-room.false) c.if-v.false q
     (over_of ws v i a n r z es c.take-bucket.result y.result v.used k y.ensures.0 y.ensures.1 y.ensures.2 y.ensures.3) c.store-2.ensures c.full_at.ensures c.move_first.ensures

@@ -3,7 +3,6 @@ use Rattle.header.proofs.Places.{open_good, open_known, open_limits, open_spread
 use Rattle.bucket.specs.Raise.{RaisesIn, Stays}
 use Rattle.bucket.specs.Views.{bucket_in}
 use Rattle.shapes.specs.Shapes.{rows_in}
-use Rattle.answer.proofs.Said.{said}
 use Rattle.model.specs.Calls.{holding}
 use Rattle.model.specs.Sound.{bucket_at, own_counts}
 use Rattle.model.specs.Walls as model
@@ -25,9 +24,6 @@ pub of-shape-requires : goal.of-shape-requires
 of-shape-requires c =
     let ws = c.args.words.now in
     let v = c.args.v in
-    let i = c.args.i in
-    let a = c.args.at in
-    let n = c.args.count in
     let r = c.requires.0 in
     let k = open_known ws v r.header in
     (k.shape_low, k.shape_high)
@@ -36,9 +32,6 @@ pub bucket_at-requires : goal.bucket_at-requires
 bucket_at-requires c =
     let ws = c.args.words.now in
     let v = c.args.v in
-    let i = c.args.i in
-    let a = c.args.at in
-    let n = c.args.count in
     let r = c.requires.0 in
     (open_known ws v r.header, r.bucket)
 
@@ -63,9 +56,6 @@ pub put_totals-requires : goal.put_totals-requires
 put_totals-requires c =
     let ws = c.args.words.now in
     let v = c.args.v in
-    let i = c.args.i in
-    let a = c.args.at in
-    let n = c.args.count in
     let r = c.requires.0 in
     let l = open_limits ws v r.header in
     (omega (arith, (open_good ws v r.header).long, c.step_first.auto.words), l.full_most, omega (arith, l.full_most, l.spare_full), open_spread ws v r.header)
@@ -83,8 +73,7 @@ returns-then-count-v c =
     let at = c.bucket_at.result in
     let q = c.bucket_at.ensures in
     let k : bucket_in z ws at ≡ bucket_at (parse ws) i = lies ws v i a n r z es at q in
-    let y = raises ws v i a n r z es c.requires.2 in
-    said c.done.result 0 n c.put_totals.new.words c.done.ensures ∙ ap (λ (x : List ℕ). record { number = 0; value = n; words = x }) c.put_totals.ensures
+    ap (λ (x : List ℕ). record { number = 0; value = n; words = x }) c.put_totals.ensures
     ∙ step_held ws v i a n r c.args.total (c.slice_known-1.given 0).fits c.step_first.new.words at (holding z.width (rows_in z) (set (own_counts z.width (rows_in z) (bucket_in z ws at)) a n)) c.requires.2
     (stays_room ws v i a n r z es c.requires.2 (stays ws v i a n r z es c.requires.2 c.args.was c.requires.1 c.if-count-v.true)) q
     (held_of ws v i a n r z es (holding z.width (rows_in z) (set (own_counts z.width (rows_in z) (bucket_in z ws at)) a n)) (ap (λ (b : model.Bucket). holding z.width (rows_in z) (set (own_counts z.width (rows_in z) b) a n)) k)) c.step_first.ensures
