@@ -61,18 +61,12 @@ pub fn sum_first(words: &[u64], at: usize, w: u64) -> u64
     requires { (1 ≤ w) × (w ≤ 16) × (at + w ≤ length words.now) }
     ensures { result ≡ first_sum w (drop at words.now) }
 {
-    // The default width has its own copy, which the compiler unrolls.
-    if w == 7 {
-        return sum_lanes(words, at, 7, 4, 8);
+    match w {
+        // The default width has its own copy, which the compiler unrolls.
+        7 => sum_lanes(words, at, 7, 4, 8),
+        ..=3 => sum_entries(words, at, w),
+        ..=7 => sum_lanes(words, at, w, 4, 8),
+        ..=15 => sum_lanes(words, at, w, 2, 16),
+        _ => sum_lanes(words, at, 16, 1, 32),
     }
-    if w < 4 {
-        return sum_entries(words, at, w);
-    }
-    if w < 8 {
-        return sum_lanes(words, at, w, 4, 8);
-    }
-    if w < 16 {
-        return sum_lanes(words, at, w, 2, 16);
-    }
-    sum_lanes(words, at, 16, 1, 32)
 }
