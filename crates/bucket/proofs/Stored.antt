@@ -73,8 +73,3 @@ from_own s b f k l below h =
     word_none (join_fields (mark_widths (rows_in s)) (map (λ (x : Level). x.marks) (levels_from s.uppers s b.upper.words b.upper.packed 0)))
     ∙ ap (join_fields (mark_widths (rows_in s))) (marks_from s.uppers s b.upper.words b.upper.packed 0) ∙ join_cut (mark_widths (rows_in s)) b.upper.packed ∙ mod-eq_of_lt h in
     rw (one, cells_from s.uppers s b.upper.words b.upper.packed 0 (omega (arith, t.levels.1)), marks)
-
--- ---- the flag and the number go in
-
-pub over_word : (x n : ℕ) → x % 2 ^ 40 + 2 ^ 40 + n * 2 ^ 48 ≡ packed_word (x % 2 ^ 40) 1 n
-over_word x n = omega arith

@@ -57,15 +57,13 @@ impl Bucket {
         if high == 0 {
             return self;
         }
-        let marks = self.marks;
-        let upper = self.upper;
-        let next = packed::rank(marks, place);
-        if packed::bit(marks, place) == 0 {
-            self.marks = packed::set_mark(marks, place);
-            self.upper = upper.grow(shape, shape.uppers, 0, 0, next, high);
-            return self;
+        let next = packed::rank(self.marks, place);
+        if packed::bit(self.marks, place) == 0 {
+            self.marks = packed::set_mark(self.marks, place);
+            self.upper = self.upper.grow(shape, shape.uppers, 0, 0, next, high);
+        } else {
+            self.upper = self.upper.rise(shape, next, high);
         }
-        self.upper = upper.rise(shape, next, high);
         self
     }
 
@@ -74,10 +72,8 @@ impl Bucket {
         requires { number < 2 ^ 16 }
         ensures { (result.first ≡ self.first) × (result.marks ≡ self.marks) × (result.upper.words ≡ self.upper.words) × (result.upper.packed ≡ packed_word (upper_marks self.upper.packed) 1 number) }
     {
-        let mut upper = self.upper;
-        let marks = upper.packed % packed::pow2(40);
-        upper.packed = marks + packed::pow2(40) + number * packed::pow2(48);
-        self.upper = upper;
+        let marks = self.upper.packed % packed::pow2(40);
+        self.upper.packed = marks + packed::pow2(40) + number * packed::pow2(48);
         self
     }
 }

@@ -1,6 +1,5 @@
 // A bucket taken out of the words of a wall, and stored there again.
 ghost use Rattle.std.specs.Prelude.{◌≡◌, ◌+◌, ◌≤◌, length, drop};
-ghost use Rattle.std.proofs.Math.Seq.{paste};
 ghost use Rattle.model.specs.Lists.{splice};
 ghost use Rattle.model.specs.Shapes.{bucket_size};
 ghost use Rattle.model.specs.Walls.{bucket_words};
@@ -8,40 +7,32 @@ ghost use Rattle.shapes.specs.Shapes.{rows_in, Valid};
 ghost use Rattle.bucket.specs.Views.{bucket_in, as_bucket};
 
 use super::Bucket;
+use growth::Upper;
 use shapes::Shape;
 
-// n words of `from`, from start on, into `to` from at on. `take` and `store` show that both have as many.
-fn copy(to: &mut [u64], at: usize, from: &[u64], start: usize, n: usize)
-    requires { (at + n ≤ length to.old) × (start + n ≤ length from.now) }
-    ensures { to.new ≡ paste to.old at (drop start from.now) n }
-{
-    let mut i = 0;
-    while i < n {
-        to[at + i] = from[start + i];
-        i += 1;
-    }
-}
-
+#[tactic(auto, using(crate::proofs::BucketWords::rows_long))]
 impl Bucket {
     // Filled from the words at an offset, whatever it held. Who read the wall's header knows that the shape is valid and that the words are there.
-    pub fn take(mut self, words: &[u64], at: usize, shape: Shape) -> Self
+    pub fn take(self, words: &[u64], at: usize, shape: Shape) -> Self
         requires { Valid shape × (at + bucket_size shape.width (rows_in shape) ≤ length words.now) }
         ensures { as_bucket shape result ≡ bucket_in shape words.now at }
     {
         let width = shape.width as usize;
         let uppers = shape.uppers as usize;
-        let mut first = self.first;
-        copy(&mut first[..], 0, words, at, width);
-        self.first = first;
         let next = at + width;
-        self.marks = words[next];
-        let mut upper = self.upper;
-        let mut cells = upper.words;
-        copy(&mut cells[..], 0, words, next + 1, uppers);
-        upper.words = cells;
-        upper.packed = words[next + 1 + uppers];
-        self.upper = upper;
-        self
+        let end = next + 1 + uppers;
+        let mut first = self.first;
+        first[..width].copy_from_slice(&words[at..next]);
+        let mut cells = self.upper.words;
+        cells[..uppers].copy_from_slice(&words[next + 1..end]);
+        Bucket {
+            first,
+            marks: words[next],
+            upper: Upper {
+                words: cells,
+                packed: words[end],
+            },
+        }
     }
 
     // Its caller took it out at the same offset.
@@ -51,13 +42,11 @@ impl Bucket {
     {
         let width = shape.width as usize;
         let uppers = shape.uppers as usize;
-        let first = self.first;
-        copy(words, at, &first[..], 0, width);
         let next = at + width;
+        let end = next + 1 + uppers;
+        words[at..next].copy_from_slice(&self.first[..width]);
         words[next] = self.marks;
-        let upper = self.upper;
-        let cells = upper.words;
-        copy(words, next + 1, &cells[..], 0, uppers);
-        words[next + 1 + uppers] = upper.packed;
+        words[next + 1..end].copy_from_slice(&self.upper.words[..uppers]);
+        words[end] = self.upper.packed;
     }
 }

@@ -38,7 +38,7 @@ pub fn bit(x: u64, a: u64) -> u64
 pub fn count(x: u64) -> u64
     ensures { (result ≡ ones x) × (result ≤ 64) }
 {
-    u64::count_ones(x) as u64
+    u64::from(x.count_ones())
 }
 
 // How many marks are set below mark a.

@@ -13,7 +13,7 @@ ghost use Rattle.bucket.specs.Raise.{RaisesIn, Stays};
 use layout::Wall;
 use shapes::Shape;
 
-// The step of a count whose part in level 1 alone changes: the bucket is taken out, stepped and stored. `step_first` shows what these ask.
+// The step of a count whose part in level 1 alone changes: the bucket is taken out, stepped and stored. `step_first` shows what this asks.
 fn step_part(words: &mut [u64], at: usize, shape: Shape, place: u64, value: u64)
     requires { (at + bucket_size shape.width (rows_in shape) ≤ length words.old) × RaisesIn shape (bucket_in shape words.old at) place value × Stays shape (bucket_in shape words.old at) place value }
     ensures { words.new ≡ splice words.old at (bucket_words (holding shape.width (rows_in shape) (set (own_counts shape.width (rows_in shape) (bucket_in shape words.old at)) place value))) }
@@ -26,21 +26,12 @@ fn step_part(words: &mut [u64], at: usize, shape: Shape, place: u64, value: u64)
         .store(words, at, shape);
 }
 
-// The same at the default width, a copy of its own that the compiler unrolls.
-fn step_default(words: &mut [u64], at: usize, shape: Shape, place: u64, value: u64)
-    requires { (at + bucket_size shape.width (rows_in shape) ≤ length words.old) × RaisesIn shape (bucket_in shape words.old at) place value × Stays shape (bucket_in shape words.old at) place value × (shape.width ≡ 7) }
-    ensures { words.new ≡ splice words.old at (bucket_words (holding shape.width (rows_in shape) (set (own_counts shape.width (rows_in shape) (bucket_in shape words.old at)) place value))) }
+// A shape of the default width, which the compiler then knows.
+fn known_width(shape: Shape) -> Shape
+    requires { shape.width ≡ 7 }
+    ensures { result ≡ shape }
 {
-    let seven = Shape {
-        uppers: shape.uppers,
-        width: 7,
-        entries: shape.entries,
-        widths: shape.widths,
-    };
-    Wall::empty_bucket()
-        .take(words, at, seven)
-        .put(7, place, value % 128)
-        .store(words, at, seven);
+    Shape { width: 7, ..shape }
 }
 
 // Who judged the bucket shows what this asks.
@@ -48,9 +39,10 @@ pub fn step_first(words: &mut [u64], at: usize, shape: Shape, place: u64, value:
     requires { (at + bucket_size shape.width (rows_in shape) ≤ length words.old) × RaisesIn shape (bucket_in shape words.old at) place value × Stays shape (bucket_in shape words.old at) place value }
     ensures { words.new ≡ splice words.old at (bucket_words (holding shape.width (rows_in shape) (set (own_counts shape.width (rows_in shape) (bucket_in shape words.old at)) place value))) }
 {
+    // The default width has its own copy, which the compiler unrolls.
     if shape.width == 7 {
-        step_default(words, at, shape, place, value);
-        return;
+        step_part(words, at, known_width(shape), place, value);
+    } else {
+        step_part(words, at, shape, place, value);
     }
-    step_part(words, at, shape, place, value);
 }

@@ -18,19 +18,14 @@ const REVERSED: [u8; 256] = [
     239, 31, 159, 95, 223, 63, 191, 127, 255,
 ];
 
-fn wide(x: u8) -> u64
-    ensures { (result ≡ x) × (result < 256) }
-{
-    x as u64
-}
-
 // Three bytes, each reversed, the first highest. The table is read as one local, for the compiler writes a constant table to the stack at each use.
 pub fn reversed_bytes(first: u64, second: u64, third: u64) -> u64
     requires { (first < 256) × (second < 256) × (third < 256) }
     ensures { result ≡ reversed 8 first * 65536 + reversed 8 second * 256 + reversed 8 third }
 {
     let table = REVERSED;
-    let high = wide(table[first as usize]);
-    let middle = wide(table[second as usize]);
-    high * 65536 + middle * 256 + wide(table[third as usize])
+    let high = table[first as usize];
+    let middle = table[second as usize];
+    let low = table[third as usize];
+    u64::from(high) * 65536 + u64::from(middle) * 256 + u64::from(low)
 }

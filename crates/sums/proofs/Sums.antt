@@ -1,9 +1,8 @@
--- Sums of the entries of a word: their bounds, and the ends of the three loops.
+-- Sums of the entries of a word: their bounds, and the steps of the loops.
 use mathlib.Core.Path.{◌≡◌, sym, ap, ◌∙◌}
 use mathlib.Core.List.{List}
 use Prim.Native.Nat.{ℕ, zero, suc, ◌+◌, ◌-◌, ◌*◌, ◌/◌, ◌%◌, ◌^◌, ◌≤◌, ◌<◌, zero-le}
-use native.Mathlib.Nat.{mod-lt, mul-one, mul-suc, suc-mul, mul_comm, add_comm, mul-le-mul, mul-le-mul_left, not-suc-le-zero}
-use native.Mathlib.Numerals.{sub-one}
+use native.Mathlib.Nat.{mod-lt, mul-one, suc-mul, mul_comm, add_comm, mul-le-mul, mul-le-mul_left}
 use native.Mathlib.Omega.{arith}
 use lib.ListN.{get_or, drop}
 use lib.Seq.{get_or-drop}
@@ -40,9 +39,11 @@ pub sum_one : (w a x : ℕ) → sum (unpack w (a + 1) x) ≡ sum (unpack w a x) 
 sum_one w a x = ap (λ n. sum (unpack w n x)) (add_comm a 1) ∙ sum_more w a 1 x ∙ omega arith
 
 -- the first of those that are left
-pub first_left : (v left y : ℕ) → 0 < left → sum (unpack v left y) ≡ y % 2 ^ v + sum (unpack v (left - 1) (y / 2 ^ v))
-first_left v zero y h = absurd (not-suc-le-zero h)
-first_left v (suc left) y h = rw sub-one
+pub left_one : (v n k y total s p : ℕ) → p ≡ 2 ^ v → k < n → total + sum (unpack v (n - k) y) ≡ s → total + y % p + sum (unpack v (n - (k + 1)) (y / 2 ^ v)) ≡ s
+left_one v n k y total s p ep h so-far =
+    let e : n - k ≡ suc (n - (k + 1)) = omega arith in
+    let f = ap (λ i. sum (unpack v i y)) e in
+    rw ep (omega arith)
 
 -- ---- the words of level 1: those above do not matter
 
@@ -54,10 +55,3 @@ module _ (w : ℕ) (ws : List ℕ) (at : ℕ) (each : (i : ℕ) → get_or ws i 
   unfolding first_sum
   first-sum n e =
       rw e (ap sum (sym (unpack_mod w 64 (pack 64 (drop at ws))) ∙ ap (λ (k : ℕ). unpack w 64 (pack 64 (drop at ws) % 2 ^ k)) (mul_comm w 64) ∙ ap (unpack w 64) (pack-take 64 (drop at ws) w below)))
-
--- entry a of 64 lies in w words
-pub entry-fits : (w a at l : ℕ) → a < 64 → w ≤ 16 → at + w ≤ l → (64 * at + (w * a + w) ≤ 64 * l) × (w * a + w ≤ 1024)
-entry-fits w a at l h k m =
-    let n : suc a ≤ 64 = h in
-    let e : w * a + w ≤ 64 * w = omega (arith, mul-suc w a, mul_comm w 64, mul-le-mul_left w n) in
-    (omega arith, omega arith)

@@ -22,12 +22,10 @@ fn sum_word(x: u64, v: u64, n: u64) -> u64
 {
     let p = packed::pow2(v);
     let mut y = x;
-    let mut left = n;
-    let mut total: u64 = 0;
-    while 0 < left {
+    let mut total = 0;
+    for _ in 0..n {
         total += y % p;
-        y = y >> v;
-        left -= 1;
+        y >>= v;
     }
     total
 }
@@ -39,11 +37,9 @@ fn sum_lanes(words: &[u64], at: usize, w: u64, n: u64, chunks: u64) -> u64
 {
     let wide = (w + w) * n;
     let odd = (packed::pow2(wide) - 1) / (packed::pow2(w) + 1);
-    let mut acc: u64 = 0;
-    let mut g: u64 = 0;
-    while g < chunks {
+    let mut acc = 0;
+    for g in 0..chunks {
         acc += paired(cells::entry_at(words, at, g, wide), w, odd);
-        g += 1;
     }
     sum_word(acc, w + w, n)
 }
@@ -53,11 +49,9 @@ fn sum_entries(words: &[u64], at: usize, w: u64) -> u64
     requires { (1 ≤ w) × (w ≤ 16) × (at + w ≤ length words.now) }
     ensures { result ≡ first_sum w (drop at words.now) }
 {
-    let mut total: u64 = 0;
-    let mut a: u64 = 0;
-    while a < 64 {
+    let mut total = 0;
+    for a in 0..64 {
         total += cells::entry_at(words, at, a, w);
-        a += 1;
     }
     total
 }
@@ -67,18 +61,12 @@ pub fn sum_first(words: &[u64], at: usize, w: u64) -> u64
     requires { (1 ≤ w) × (w ≤ 16) × (at + w ≤ length words.now) }
     ensures { result ≡ first_sum w (drop at words.now) }
 {
-    // The default width has its own copy, which the compiler unrolls.
-    if w == 7 {
-        return sum_lanes(words, at, 7, 4, 8);
+    match w {
+        // The default width has its own copy, which the compiler unrolls.
+        7 => sum_lanes(words, at, 7, 4, 8),
+        ..=3 => sum_entries(words, at, w),
+        ..=7 => sum_lanes(words, at, w, 4, 8),
+        ..=15 => sum_lanes(words, at, w, 2, 16),
+        _ => sum_lanes(words, at, 16, 1, 32),
     }
-    if w < 4 {
-        return sum_entries(words, at, w);
-    }
-    if w < 8 {
-        return sum_lanes(words, at, w, 4, 8);
-    }
-    if w < 16 {
-        return sum_lanes(words, at, w, 2, 16);
-    }
-    sum_lanes(words, at, 16, 1, 32)
 }

@@ -1,10 +1,5 @@
-use native.Mathlib.Omega.{arith}
-use lib.ListN.{length-set}
 use Rattle.moves.proofs.Fulls.{moved_stored}
 use Rattle.moves.proofs.move_in.Goals as goal
-
-pub bounds-words-at-3 : goal.bounds-words-at-3
-bounds-words-at-3 c = simp length-set (omega arith)
 
 pub returns : goal.returns
 returns c =

@@ -28,6 +28,3 @@ overflow_mul-result-2 c = omega (arith, bound c)
 
 pub overflow_add-result-2 : goal.overflow_add-result-2
 overflow_add-result-2 c = omega (arith, bound c)
-
-pub returns : goal.returns
-returns c = rw (c.pow2-p.ensures.0, c.pow2.ensures.0)

@@ -1,12 +1,8 @@
 use mathlib.Core.Path.{◌≡◌}
-use Prim.Native.Nat.{◌-◌, ◌≤◌}
 use lib.ListN.{drop}
 use Rattle.model.specs.Lists.{sum}
 use Rattle.model.specs.Packed.{pack, unpack}
 use Rattle.sums.proofs.sum_entries.Given as goal
 
 abbrev pub invariant-loop-a : goal.invariant-loop-a
-invariant-loop-a l = (l.a ≤ 64) × (l.total ≡ sum (unpack l.w l.a (pack 64 (drop l.at l.words))))
-
-abbrev pub decreases-loop-a : goal.decreases-loop-a
-decreases-loop-a l = 64 - l.a
+invariant-loop-a l = l.total ≡ sum (unpack l.w l.a (pack 64 (drop l.at l.words)))

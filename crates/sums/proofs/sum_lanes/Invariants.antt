@@ -1,11 +1,7 @@
-use Prim.Native.Nat.{◌-◌, ◌≤◌}
 use lib.ListN.{drop}
 use Rattle.model.specs.Packed.{pack}
 use Rattle.sums.proofs.Chunks.{Added}
 use Rattle.sums.proofs.sum_lanes.Given as goal
 
 abbrev pub invariant-loop-g : goal.invariant-loop-g
-invariant-loop-g l = (l.g ≤ l.chunks) × Added l.w l.n l.g (pack 64 (drop l.at l.words)) l.acc
-
-abbrev pub decreases-loop-g : goal.decreases-loop-g
-decreases-loop-g l = l.chunks - l.g
+invariant-loop-g l = Added l.w l.n l.g (pack 64 (drop l.at l.words)) l.acc

@@ -96,8 +96,8 @@ rise-self-requires c =
     rises-put a.shape a.self c.put-self.result (search rules) a.place a.value c.requires.0 (rw c.pow2.ensures.0 at c.put-self.ensures)
     (omega (arith, c.if-high-eq0.false)) _ _ c.bit.ensures c.rank-next.ensures.0 c.requires.1 c.if-bit-eq0.false
 
-pub returns : goal.returns
-returns c =
+pub returns-else-bit-eq0 : goal.returns-else-bit-eq0
+returns-else-bit-eq0 c =
     let a = c.args in
     held_up a.shape a.self c.put-self.result (search rules) a.place a.value c.requires.0 (rw c.pow2.ensures.0 at c.put-self.ensures)
     (omega (arith, c.if-high-eq0.false)) _ _ c.bit.ensures c.rank-next.ensures.0

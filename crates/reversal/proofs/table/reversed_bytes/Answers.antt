@@ -9,4 +9,4 @@ returns c =
     let small3 : c.args.third < 256 = c.requires.2 in
     -- `rw` reads the table off the goal; its test computes to `Unit`, and the law's conditions are found here
     let right : Unit {0} = tt in
-    rw (c.wide-high.ensures.0, c.wide-middle.ensures.0, c.wide.ensures.0, table_right 8)
+    rw (c.from.ensures, c.from-2.ensures, c.from-3.ensures, table_right 8)
