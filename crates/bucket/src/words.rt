@@ -21,6 +21,7 @@ impl Bucket {
         let uppers = shape.uppers as usize;
         let next = at + width;
         let end = next + 1 + uppers;
+        // A part lent out of a field comes back unknown to the proof, so the arrays are taken out first.
         let mut first = self.first;
         first[..width].copy_from_slice(&words[at..next]);
         let mut cells = self.upper.words;

@@ -14,6 +14,8 @@ use layout::Wall;
 use shapes::Shape;
 
 // The step of a count whose part in level 1 alone changes: the bucket is taken out, stepped and stored. `step_first` shows what this asks.
+// Inlined at both calls: else an increment takes a sixth more instructions and 360 bytes more of stack.
+#[inline(always)]
 fn step_part(words: &mut [u64], at: usize, shape: Shape, place: u64, value: u64)
     requires { (at + bucket_size shape.width (rows_in shape) ≤ length words.old) × RaisesIn shape (bucket_in shape words.old at) place value × Stays shape (bucket_in shape words.old at) place value }
     ensures { words.new ≡ splice words.old at (bucket_words (holding shape.width (rows_in shape) (set (own_counts shape.width (rows_in shape) (bucket_in shape words.old at)) place value))) }
@@ -26,7 +28,7 @@ fn step_part(words: &mut [u64], at: usize, shape: Shape, place: u64, value: u64)
         .store(words, at, shape);
 }
 
-// A shape of the default width, which the compiler then knows.
+// A shape of the default width, known to the compiler, which unrolls the step's copy for it.
 fn known_width(shape: Shape) -> Shape
     requires { shape.width ≡ 7 }
     ensures { result ≡ shape }
@@ -39,7 +41,6 @@ pub fn step_first(words: &mut [u64], at: usize, shape: Shape, place: u64, value:
     requires { (at + bucket_size shape.width (rows_in shape) ≤ length words.old) × RaisesIn shape (bucket_in shape words.old at) place value × Stays shape (bucket_in shape words.old at) place value }
     ensures { words.new ≡ splice words.old at (bucket_words (holding shape.width (rows_in shape) (set (own_counts shape.width (rows_in shape) (bucket_in shape words.old at)) place value))) }
 {
-    // The default width has its own copy, which the compiler unrolls.
     if shape.width == 7 {
         step_part(words, at, known_width(shape), place, value);
     } else {
