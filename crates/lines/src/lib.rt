@@ -29,6 +29,7 @@ fn each_line(input: &[u8], words: &mut [u64], page: &mut Page)
 }
 
 // The whole output for the whole input, over the wall in the words: how many bytes of `out` it takes. `count::respond` shows that there is room.
+// No `Page` comes in: this contract, over the buffer and the length, is one that docs/PROMISES.md names.
 pub fn lines(input: &[u8], words: &mut [u64], out: &mut [u8]) -> usize
     requires { length (transcript input.now words.old) ≤ length out.old }
     ensures size { result ≡ length (transcript input.now words.old) }
