@@ -15,7 +15,7 @@ use Rattle.texts.specs.Texts.{answer_line, total_line, bad_line}
 use Rattle.std.specs.Prelude.{Some, None}
 use Rattle.texts.specs.declared.Page.{Page}
 use Rattle.texts.specs.Writing.{Wrote, Fits, Added}
-use Rattle.texts.proofs.Texts.{fits-first, fits-next, and_then, added_none}
+use Rattle.texts.proofs.Texts.{fits-first, fits-next, and_then}
 use Rattle.lines.specs.Transcript.{lines_of, is_flow, value_of, flow_of, answers, words_of, bad_input, transcript, words_after}
 
 -- a flow, or none
@@ -36,10 +36,7 @@ pub record Done (ls₀ : List (List ℕ)) (ws₀ : List ℕ) (page₀ : Page) (l
   pub text : answers 1 ls₀ ws₀ ≡ said ++ answers line ls ws
   pub words : words_of ls₀ ws₀ ≡ words_of ls ws
 
-pub done_none : (ls : List (List ℕ)) (ws : List ℕ) (page : Page) → Done ls ws page ls ws page 1
-done_none ls ws page = record { said = []; added = added_none page; text = refl; words = refl }
-
-module _ (ls₀ : List (List ℕ)) (ws₀ : List ℕ) (page₀ : Page) (ls : List (List ℕ)) (ws : List ℕ) (page : Page) (line : ℕ) (d : Done ls₀ ws₀ page₀ ls ws page line) (room : Fits page₀ (answers 1 ls₀ ws₀)) where
+module _ {ls₀ : List (List ℕ)} {ws₀ : List ℕ} {page₀ : Page} {ls : List (List ℕ)} {ws : List ℕ} {page : Page} {line : ℕ} (d : Done ls₀ ws₀ page₀ ls ws page line) (room : Fits page₀ (answers 1 ls₀ ws₀)) where
   left : Fits page (answers line ls ws)
   left = fits-next page₀ d.said (answers line ls ws) (rw d.text at room) d.added
 
@@ -66,7 +63,7 @@ module _ (ls₀ : List (List ℕ)) (ws₀ : List ℕ) (page₀ : Page) (ls : Lis
 
   -- ---- a line
 
-  module _ (l : List ℕ) (more : List (List ℕ)) (e : ls ≡ l ∷ more) where
+  module _ {l : List ℕ} {more : List (List ℕ)} (e : ls ≡ l ∷ more) where
     module _ (f : None ≡ flow_of l) where
       bad : answers line ls ws ≡ bad_line line
       unfolding answers
@@ -82,7 +79,7 @@ module _ (ls₀ : List (List ℕ)) (ws₀ : List ℕ) (page₀ : Page) (ls : Lis
       unfolding words_of
       bad_words = sym (d.words ∙ rw (e, none (is_flow l) (value_of l) f))
 
-    module _ (y : ℕ) (a : Answer) (vs : List ℕ) (f : Some y ≡ flow_of l) (g : outcome_of a vs ≡ increment ws y) where
+    module _ {y : ℕ} (a : Answer) (vs : List ℕ) (f : Some y ≡ flow_of l) (g : outcome_of a vs ≡ increment ws y) where
       flow : answers line ls ws ≡ answer_line y a.number a.value ++ answers (line + 1) more vs
       unfolding answers
       flow = let k = some (is_flow l) (value_of l) y f in rw (e, k.0, k.1, ← g)

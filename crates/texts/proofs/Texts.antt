@@ -1,5 +1,5 @@
 -- Texts written one after another, where there is room for all of them.
-use Rattle.std.proofs.Common.{◌≡◌, List, [], ◌++◌, ℕ, length, refl, ap₂, ◌∙◌, arith, add-zero, take-append-drop, length-append}
+use Rattle.std.proofs.Common.{◌≡◌, List, ◌++◌, ℕ, length, ap₂, ◌∙◌, arith, length-append}
 use Rattle.model.specs.Lists.{splice}
 use Rattle.model.proofs.Splices.{splice_on, length-splice}
 use Rattle.texts.specs.Writing.{Room, Wrote, Fits, Added}
@@ -7,10 +7,6 @@ use Rattle.texts.specs.declared.Page.{Page}
 
 pub same_length : {o s p : List ℕ} {at n : ℕ} → Room o at s → Wrote o at s p n → length p ≡ length o
 same_length {o} {s} {at = at} h w = rw w.bytes (length-splice o at s h)
-
--- nothing written yet
-pub added_none : (p : Page) → Added p [] p
-added_none p = record { same = refl; wrote = record { bytes = simp (add-zero, take-append-drop); ends = simp add-zero } }
 
 module _ (p : Page) (s t : List ℕ) (h : Fits p (s ++ t)) where
   pub fits-first : Fits p s

@@ -12,29 +12,29 @@ loop-i-init-derived c =
 pub bad_line-requires : goal.bad_line-requires
 bad_line-requires c =
     let s = c.in-Some.ensures.steps in
-    rw s.1 (bad_room _ _ _ _ _ _ _ c.loop-i.invariant c.requires _ _ s.0 c.in_default.ensures)
+    rw s.1 (bad_room c.loop-i.invariant c.requires s.0 c.in_default.ensures)
 
 pub returns-in_default-clause-written : goal.returns-in_default-clause-written
 returns-in_default-clause-written c =
     let s = c.in-Some.ensures.steps in
-    bad_done _ _ _ _ _ _ _ c.loop-i.invariant c.requires _ _ s.0 c.in_default.ensures (rw s.1 at c.bad_line.ensures)
+    bad_done c.loop-i.invariant c.requires s.0 c.in_default.ensures (rw s.1 at c.bad_line.ensures)
 
 pub returns-in_default-clause-words : goal.returns-in_default-clause-words
-returns-in_default-clause-words c = bad_words _ _ _ _ _ _ _ c.loop-i.invariant c.requires _ _ c.in-Some.ensures.steps.0 c.in_default.ensures
+returns-in_default-clause-words c = bad_words c.loop-i.invariant c.requires c.in-Some.ensures.steps.0 c.in_default.ensures
 
 pub answer-requires : goal.answer-requires
-answer-requires c = flow-room _ _ _ _ _ _ _ c.loop-i.invariant c.requires _ _ c.in-Some.ensures.steps.0 _ c.increment.result c.increment.new.words c.in-Some-flow_in.ensures c.increment.ensures
+answer-requires c = flow-room c.loop-i.invariant c.requires c.in-Some.ensures.steps.0 c.increment.result c.increment.new.words c.in-Some-flow_in.ensures c.increment.ensures
 
 pub loop-i-preserved : goal.loop-i-preserved
 loop-i-preserved c =
     let s = c.in-Some.ensures.steps in
-    rw s.2 (flow-done _ _ _ _ _ _ _ c.loop-i.invariant c.requires _ _ s.0 _ c.increment.result c.increment.new.words c.in-Some-flow_in.ensures c.increment.ensures c.answer.ensures)
+    rw s.2 (flow-done c.loop-i.invariant c.requires s.0 c.increment.result c.increment.new.words c.in-Some-flow_in.ensures c.increment.ensures c.answer.ensures)
 
 pub totals-requires : goal.totals-requires
-totals-requires c = total-room _ _ _ _ _ _ _ c.loop-i.invariant c.requires c.in-None.ensures.steps.0.0
+totals-requires c = total-room c.loop-i.invariant c.requires c.in-None.ensures.steps.0.0
 
 pub returns-clause-written : goal.returns-clause-written
-returns-clause-written c = total-done _ _ _ _ _ _ _ c.loop-i.invariant c.requires c.in-None.ensures.steps.0.0 c.totals.ensures
+returns-clause-written c = total-done c.loop-i.invariant c.requires c.in-None.ensures.steps.0.0 c.totals.ensures
 
 pub returns-clause-words : goal.returns-clause-words
-returns-clause-words c = total-words _ _ _ _ _ _ _ c.loop-i.invariant c.requires c.in-None.ensures.steps.0.0
+returns-clause-words c = total-words c.loop-i.invariant c.requires c.in-None.ensures.steps.0.0

@@ -9,8 +9,8 @@ text-requires c = fits-first c.args.self.now bad_text (decimal c.args.line ++ ne
 
 pub field-requires : goal.field-requires
 unfolding bad_line
-field-requires c = fits-next c.args.self.now bad_text (decimal c.args.line ++ newline) c.requires c.text.ensures
+field-requires c = fits-next _ _ _ c.requires c.text.ensures
 
 pub returns : goal.returns
 unfolding bad_line
-returns c = and_then c.args.self.now bad_text (decimal c.args.line ++ newline) c.requires c.text.ensures c.field.ensures
+returns c = and_then _ _ _ c.requires c.text.ensures c.field.ensures

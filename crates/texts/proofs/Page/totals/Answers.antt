@@ -14,17 +14,14 @@ text-requires c =
 pub field-requires : goal.field-requires
 unfolding total_line
 field-requires c =
-    let ws = c.args.words.now in
-    rw c.word-total.ensures (fits_second c.args.self.now total_text (decimal (word_at ws 2) ++ full_text) (decimal (word_at ws 3 / 65536 % 65536) ++ newline) c.requires c.text.ensures)
+    rw c.word-total.ensures (fits_second _ _ _ (decimal (word_at c.args.words.now 3 / 65536 % 65536) ++ newline) c.requires c.text.ensures)
 
 pub field-requires-2 : goal.field-requires-2
 unfolding total_line
 field-requires-2 c =
-    let ws = c.args.words.now in
-    rw c.word.ensures (fits_third c.args.self.now total_text (decimal (word_at ws 2) ++ full_text) (decimal (word_at ws 3 / 65536 % 65536) ++ newline) c.requires c.text.ensures (rw c.word-total.ensures at c.field.ensures))
+    rw c.word.ensures (fits_third _ _ _ _ c.requires c.text.ensures (rw c.word-total.ensures at c.field.ensures))
 
 pub returns : goal.returns
 unfolding total_line
 returns c =
-    let ws = c.args.words.now in
-    all_three c.args.self.now total_text (decimal (word_at ws 2) ++ full_text) (decimal (word_at ws 3 / 65536 % 65536) ++ newline) c.requires c.text.ensures (rw c.word-total.ensures at c.field.ensures) (rw c.word.ensures at c.field-2.ensures)
+    all_three _ _ _ _ c.requires c.text.ensures (rw c.word-total.ensures at c.field.ensures) (rw c.word.ensures at c.field-2.ensures)
