@@ -4,6 +4,8 @@ use native.Mathlib.Decide.{dec_le}
 use Rattle.std.proofs.Common.{◌≡◌, List, ◌++◌, ℕ, ◌+◌, ◌-◌, ◌≤◌, length, take, take_at, sym, subst, Option, None, Some, IfSome, take_all, ap, ap₂, ◌∙◌, arith, le_refl, length-take-le, drop_at, take-add}
 use Rattle.std.proofs.lemmas.List.{take-append-le}
 use Rattle.std.proofs.lemmas.Slice.{take-put_mid_below}
+use Rattle.std.specs.Prelude.{Result, Ok, Err, IfOk, IsErrAnd}
+use Rattle.std.specs.Result.{MatchResult}
 use Rattle.std.specs.Io.KnownBytes.{Appends}
 use Rattle.lines.proofs.Turns.{too_long}
 use Rattle.count.specs.Program.{raised, program}
@@ -34,3 +36,9 @@ told None before after s out rest r e n o a = tt
 told (Some input) before after s out rest r e n o a =
     subst (Appends before after)
     (ap (take r) o ∙ take_at (program s) rest r (sym n) ∙ ap program e ∙ whole input) a
+
+-- what holds of a value that is there holds after `map_err` too
+pub mapped : {T D E : Type 0} (r : Result T E) (q : Result T D) (Q : E → D → Type 0) (P : T → Type 0) → MatchResult r (λ x. q ≡ Ok x) (λ e. IsErrAnd q (Q e)) → IfOk r P → IfOk q P
+mapped (Ok x) q Q P e p = rw e p
+mapped (Err d) (Ok y) Q P e p = absurd e
+mapped (Err d) (Err b) Q P e p = tt

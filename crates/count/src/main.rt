@@ -9,11 +9,11 @@ ghost use Rattle.count.specs.Failures.{IfUnread};
 ghost use Rattle.count.specs.Examples.{Examples};
 
 use std::fmt::InlineText;
-use std::io;
 use std::io::{Read, Write};
+use std::{fmt, io};
 
 // What the program writes for the n bytes that it read: the first bytes of `out`. `run` shows that these are enough, and that its buffer
-// holds more than the longest input.
+// holds more than the longest input: `longer` speaks of the whole buffer, which is why it comes with n beside it.
 fn respond(input: &[u8], n: usize, out: &mut [u8]) -> usize
     requires longer { 65536 < length input.now }
     requires within { n ≤ length input.now }
@@ -35,6 +35,7 @@ fn read_whole<R: Read>(reader: &mut R, buf: &mut [u8]) -> io::Result<usize>
     ensures rest { IfOk result (λ n. Consumes (R.remaining reader.old) (R.remaining reader.new) (take n buf.new)) }
     ensures failed { OnErr result ((n : ℕ) × (n ≤ length buf.new) × Consumes (R.remaining reader.old) (R.remaining reader.new) (take n buf.new)) }
 {
+    // no library call: `read_to_end` wants a `Vec`, and there is no heap; `read_exact` does not say how many bytes came
     let mut done = 0;
     while done < buf.len() {
         let n = reader.read(&mut buf[done..])?;
@@ -59,40 +60,36 @@ fn run<R: Read, W: Write>(reader: &mut R, writer: &mut W) -> Result<(), Failure>
     ensures unread { IfErr result (λ failure. IfUnread failure (Keeps (W.contents writer.old) (W.contents writer.new))) }
 {
     let mut input = [0u8; 65537];
-    let n = match read_whole(reader, &mut input) {
-        Ok(n) => n,
-        Err(error) => return Err(Failure::Read(error)),
-    };
+    let n = read_whole(reader, &mut input).map_err(Failure::Read)?;
     let mut out = [0u8; 262208];
     let written = respond(&input, n, &mut out);
-    match writer.write_all(&out[..written]) {
-        Ok(()) => Ok(()),
-        Err(error) => Err(Failure::Write(error)),
-    }
+    writer.write_all(&out[..written]).map_err(Failure::Write)
 }
 
 // The system's words for an error, without the number that std puts after them.
 fn words(text: &str) -> &str
     ensures { StartsWith text.now result.now }
 {
-    match text.find(" (os error ") {
-        Some(n) => &text[..n],
-        None => text,
+    text.split_once(" (os error ")
+        .map_or(text, |(words, _)| words)
+}
+
+// What failed, and the system's words for it.
+impl fmt::Display for Failure {
+    fn fmt<W: fmt::Write>(&self, f: &mut fmt::Formatter<W>) -> fmt::Result {
+        let (what, error) = match self {
+            Failure::Read(error) => ("read", error),
+            Failure::Write(error) => ("write", error),
+        };
+        let text = InlineText::<256>::of(error);
+        let words = words(text.as_str());
+        write!(f, "{what}: {words}")
     }
 }
 
-// What failed, and the system's words for it, on standard error. Where that fails too, nothing is said.
-fn say(rt: &impl Eprint, what: &str, error: &io::Error) {
-    let text = InlineText::<256>::of(error);
-    let words = words(text.as_str());
-    let _ = eprintln!(rt; "count: {what}: {words}");
-}
-
-// A failed read or write is said on standard error.
+// A failed read or write is said on standard error. Where that fails too, nothing is said.
 fn main(rt: HostRuntime) {
-    match run(&mut rt.stdin(), &mut rt.stdout()) {
-        Ok(()) => {}
-        Err(Failure::Read(error)) => say(&rt, "read", &error),
-        Err(Failure::Write(error)) => say(&rt, "write", &error),
+    if let Err(failure) = run(&mut rt.stdin(), &mut rt.stdout()) {
+        let _ = eprintln!(rt; "count: {failure}");
     }
 }

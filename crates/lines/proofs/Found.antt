@@ -1,18 +1,16 @@
 -- Lines in what is left of the input, and the number in a line.
-use borrow.Author.Tests.{le-leb, lt-leb}
-use Rattle.std.proofs.Common.{◌≡◌, refl, sym, ap, ◌∙◌, Bool, true, false, cond, not, List, [], ◌∷◌, map, ℕ, ◌+◌, ◌-◌, ◌*◌, ◌^◌, ◌≤◌, ◌<◌, add-one, one-add, arith, eqb, length, get_or, take, drop, length-drop}
-use Rattle.std.proofs.Math.Nat.{pow-suc, pow-le-pow_right, zero-lt-suc}
+use borrow.Author.Tests.{le-leb}
+use Rattle.std.proofs.Common.{◌≡◌, ◌≢◌, refl, ap, ◌∙◌, Bool, true, false, cond, not, List, [], ◌∷◌, map, ℕ, ◌+◌, ◌-◌, ◌^◌, ◌≤◌, ◌<◌, add-one, one-add, arith, eqb, leb, ◌&&◌, length, get_or, take, drop, Some, None, length-drop, drop_of_length-le}
 use Rattle.std.proofs.Math.Seq.{drop-cons, drop-length, take_all}
 use Rattle.std.proofs.lemmas.List.Sums.{position_or_len_is}
-use Rattle.std.specs.List.{position_or_len}
+use Rattle.std.specs.List.{position_or_len, AllWithin, HoldsAt}
 use Rattle.model.specs.Lists.{choose, all}
-use Rattle.lines.specs.declared.read.Flow.TheVariants.{Number, Bad}
 use Rattle.lines.specs.Transcript.{lines_of, in_front, is_digit, is_flow, value_after, value_of, flow_of}
 
 -- ---- the first line
 
 -- how long it is
-abbrev pub line_end : List ℕ → ℕ
+abbrev line_end : List ℕ → ℕ
 line_end s = position_or_len (λ c. eqb c 10) s
 
 -- b says whether c is a newline, and k where the first newline of s stands
@@ -25,30 +23,45 @@ unfolding lines_of
 in-front c [] = refl
 in-front c (d ∷ s) = ap (in_front c) (by-newline d s (line_end s) (eqb d 10) (in-front d s))
 
-pub lines_cut : (s : List ℕ) → 0 < length s → lines_of s ≡ take (line_end s) s ∷ lines_of (drop (line_end s + 1) s)
+lines_cut : (s : List ℕ) → 0 < length s → lines_of s ≡ take (line_end s) s ∷ lines_of (drop (line_end s + 1) s)
 unfolding lines_of
 lines_cut [] h = absurd (omega arith)
 lines_cut (c ∷ s) h = by-newline c s (line_end s) (eqb c 10) (in-front c s)
 
--- what the code finds in the rest of the input
-rest-is : (input : List ℕ) (at : ℕ) → take (length input - at) (drop at input) ≡ drop at input
-rest-is input at = take_all (length input - at) (drop at input) (simp length-drop (omega arith))
+pub lines_none : (s : List ℕ) → length s ≡ 0 → lines_of s ≡ []
+unfolding lines_of
+lines_none [] h = refl
+lines_none (c ∷ s) h = absurd (omega arith)
 
-module _ (input : List ℕ) (at n : ℕ) where
-  abbrev pub rest : List ℕ
-  rest = take (length input - at) (drop at input)
+-- n bytes stand before the first newline, or before the end
+ends : (s : List ℕ) (n : ℕ) → n ≤ length s → AllWithin (λ c. c ≢ 10) s 0 n → (n < length s → HoldsAt (λ c. c ≡ 10) s n) → line_end s ≡ n
+ends s n h b f = position_or_len_is (λ c. eqb c 10) s n 0 h (λ k l. grind (arith, b k 0 (omega arith) l)) (λ l. grind (arith, f l 0))
 
-  pub ends : n ≤ length rest → ((k : ℕ) → k < n → get_or rest k 0 ≡ 10 → ⊥) → (n < length rest → get_or rest n 0 ≡ 10) → n ≡ line_end (drop at input)
-  ends h b f = sym (position_or_len_is (λ c. eqb c 10) rest n 0 h (λ k l. grind (arith, b k l)) (λ l. grind (arith, f l))) ∙ rw (rest-is input at) refl
+-- the first newline ends the first line
+pub at_newline : (s : List ℕ) (n : ℕ) → (n < length s) × HoldsAt (λ c. c ≡ 10) s n × AllWithin (λ c. c ≢ 10) s 0 n → lines_of s ≡ take n s ∷ lines_of (take (length s - (n + 1)) (drop (n + 1) s))
+at_newline s n (h, f, b) =
+    rw (take_all (length s - (n + 1)) (drop (n + 1) s) (simp length-drop (omega arith)))
+    (rw (ends s n (omega arith) b (λ _. f)) at (lines_cut s (omega arith)))
 
-  pub next : at < length input → n ≤ length rest → at + n ≤ length input
-  next h l = omega (arith, simp (length-drop) at (rw (rest-is input at) at l))
+-- without one all is the first line, and the last
+pub no_newline : (s : List ℕ) → 0 < length s → AllWithin (λ c. c ≢ 10) s 0 (length s) → lines_of s ≡ s ∷ lines_of []
+no_newline s h b =
+    rw (ends s (length s) (omega arith) b (λ l. absurd (omega arith))) at (lines_cut s h)
+    ∙ rw (take_all (length s) s (omega arith), drop_of_length-le s {i = length s + 1} (omega arith)) refl
 
-  pub bad_in : Bad ≡ flow_of (take n rest) → Bad ≡ flow_of (take n (drop at input))
-  bad_in e = rw (rest-is input at) at e
+front-length : (c : ℕ) (ls : List (List ℕ)) (n : ℕ) → length ls ≤ n → length (in_front c ls) ≤ n + 1
+front-length c [] n h = omega arith
+front-length c (l ∷ ls) n h = omega arith
 
-  pub flow-in : {y : ℕ} → Number y ≡ flow_of (take n rest) → Number y ≡ flow_of (take n (drop at input))
-  flow-in e = rw (rest-is input at) at e
+-- no more lines than bytes
+pub lines_fewer : (s : List ℕ) → length (lines_of s) ≤ length s
+unfolding lines_of
+lines_fewer [] = omega arith
+lines_fewer (c ∷ s) = by (eqb c 10) (lines_fewer s)
+  where
+    by : (b : Bool) → length (lines_of s) ≤ length s → length (choose b ([] ∷ lines_of s) (in_front c (lines_of s))) ≤ length (c ∷ s)
+    by true h = omega arith
+    by false h = omega (arith, front-length c (lines_of s) (length s) h)
 
 -- ---- the number in a line
 
@@ -61,40 +74,20 @@ pub record Read (l : List ℕ) (i v : ℕ) : Type 0 where
   pub value : value_after 0 l ≡ value_after v (drop i l)
   pub small : v < 10 ^ i
 
-pub flow_none : (l : List ℕ) → length l < 1 → Bad ≡ flow_of l
+pub flow-not : (l : List ℕ) → leb 1 (length l) && leb (length l) 7 ≡ false → None ≡ flow_of l
 unfolding is_flow
-flow_none l h = rw (lt-leb 1 (length l) h)
-
-pub flow_long : (l : List ℕ) → 7 < length l → Bad ≡ flow_of l
-unfolding is_flow
-flow_long l h = rw (le-leb 1 (length l) (omega arith), lt-leb (length l) 7 h)
-
-pub read_none : (l : List ℕ) → 1 ≤ length l → length l ≤ 7 → Read l 0 0
-read_none l h k = record { within = omega arith; short = k; long = h; digits = refl; value = refl; small = omega arith }
+flow-not l e = by (leb 1 (length l)) (leb (length l) 7) e
+  where
+    by : (a b : Bool) → a && b ≡ false → None ≡ choose (a && (b && all (map is_digit l))) (Some (value_of l)) None
+    by true true e = cc
+    by true false e = refl
+    by false b e = refl
 
 module _ (l : List ℕ) (i v : ℕ) (r : Read l i v) where
-  -- room for one more digit
-  pub fits : i < length l → v * 10 + 9 < 10 ^ 7
-  fits h = omega (arith, r.small, r.short, pow-le-pow_right {n = 10} (zero-lt-suc 9) {i = i} {j = 6} (omega (arith, r.short)))
-
-  pub flow-low : i < length l → get_or l i 0 < 48 → Bad ≡ flow_of l
+  pub flow-other : i < length l → is_digit (get_or l i 0) ≡ false → None ≡ flow_of l
   unfolding is_flow
-  flow-low h k = rw (le-leb 1 (length l) r.long, le-leb (length l) 7 r.short, r.digits, drop-cons l i 0 h, lt-leb 48 (get_or l i 0) k)
+  flow-other h e = rw (le-leb 1 (length l) r.long, le-leb (length l) 7 r.short, r.digits, drop-cons l i 0 h, e)
 
-  pub flow-high : i < length l → 57 < get_or l i 0 → Bad ≡ flow_of l
-  unfolding is_flow
-  flow-high h k = rw (le-leb 1 (length l) r.long, le-leb (length l) 7 r.short, r.digits, drop-cons l i 0 h, le-leb 48 (get_or l i 0) (omega arith), lt-leb (get_or l i 0) 57 k)
-
-  pub read_on : i < length l → 48 ≤ get_or l i 0 → get_or l i 0 ≤ 57 → Read l (i + 1) (v * 10 + (get_or l i 0 - 48))
-  read_on h a b = record {
-    within = omega arith;
-    short = r.short;
-    long = r.long;
-    digits = r.digits ∙ rw (drop-cons l i 0 h, le-leb 48 (get_or l i 0) a, le-leb (get_or l i 0) 57 b, add-one i);
-    value = r.value ∙ rw (drop-cons l i 0 h, add-one i);
-    small = rw (add-one i, pow-suc 10 i) (omega (arith, r.small));
-  }
-
-  pub flow_is : i ≡ length l → Number v ≡ flow_of l
+  pub flow_is : i ≡ length l → Some v ≡ flow_of l
   unfolding is_flow value_of
   flow_is e = rw (le-leb 1 (length l) r.long, le-leb (length l) 7 r.short, r.digits, r.value, e, drop-length l)

@@ -15,19 +15,16 @@ use Rattle.model.specs.Calls.{Outcome, increment}
 use Rattle.texts.specs.Texts.{decimal, answer_line, bad_line}
 use Rattle.texts.proofs.Lengths.{few_digits, total-short, bad_short, answer_long}
 use Rattle.lines.specs.Transcript.{in_front, lines_of, is_digit, is_flow, value_after, value_of, answers, bad_input, too_long, transcript}
+use Rattle.std.proofs.lemmas.Bool.{and_parts}
 use Rattle.lines.proofs.Kept.{Small, number_small, done_counted, refused_same}
 
 -- ---- a flow
 
-and-true : (a b : Bool) → a && b ≡ true → (a ≡ true) × (b ≡ true)
-and-true true b e = (refl, e)
-and-true false b e = let z : ◌≡◌ {A = ℕ} 0 1 = cc in absurd (omega arith)
-
 value_small : (l : List ℕ) (v i : ℕ) → all (map is_digit l) ≡ true → v < 10 ^ i → value_after v l < 10 ^ (i + length l)
 value_small [] v i d h = rw (add-zero i) h
 value_small (c ∷ l) v i d h =
-    let p = and-true (is_digit c) (all (map is_digit l)) d in
-    let q = and-true (leb 48 c) (leb c 57) p.0 in
+    let p = and_parts (is_digit c) (all (map is_digit l)) d in
+    let q = and_parts (leb 48 c) (leb c 57) p.0 in
     let s : v * 10 + (c - 48) < 10 ^ suc i = rw (pow-suc 10 i) (omega (arith, leb-true 48 c q.0, leb-true c 57 q.1)) in
     rw (add-suc i (length l), ← suc-add i (length l)) (value_small l (v * 10 + (c - 48)) (suc i) p.1 s)
 
@@ -40,7 +37,7 @@ flow_line : (l : List ℕ) → is_flow l ≡ true → FlowLine l
 unfolding is_flow value_of
 flow_line [] e = let z : ◌≡◌ {A = ℕ} 0 1 = cc in absurd (omega arith)
 flow_line (c ∷ l) e =
-    let q = and-true (leb (length (c ∷ l)) 7) (all (map is_digit (c ∷ l))) (and-true (leb 1 (length (c ∷ l))) (leb (length (c ∷ l)) 7 && all (map is_digit (c ∷ l))) e).1 in
+    let q = and_parts (leb (length (c ∷ l)) 7) (all (map is_digit (c ∷ l))) (and_parts (leb 1 (length (c ∷ l))) (leb (length (c ∷ l)) 7 && all (map is_digit (c ∷ l))) e).1 in
     record {
       long = omega arith;
       short = few_digits (length l) (value_after 0 (c ∷ l)) (rw (zero-add (suc (length l))) at (value_small (c ∷ l) 0 0 q.1 (omega arith)));

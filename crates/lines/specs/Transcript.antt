@@ -1,11 +1,9 @@
 -- What the program writes for the bytes that it reads and the words of its wall, and the words that it leaves.
-use Rattle.std.specs.Prelude.{Bool, ◌&&◌, List, [], ◌∷◌, ◌++◌, map, ℕ, ◌+◌, ◌-◌, ◌*◌, leb, ltb, eqb, length}
+use Rattle.std.specs.Prelude.{Bool, ◌&&◌, List, [], ◌∷◌, ◌++◌, map, ℕ, ◌+◌, ◌-◌, ◌*◌, leb, ltb, eqb, length, Option, Some, None}
 use Rattle.model.specs.Lists.{choose, all}
 use Rattle.model.specs.Walls.{read_header}
 use Rattle.model.specs.Calls.{Outcome, increment}
 use Rattle.texts.specs.Texts.{bytes_of, answer_line, total_line, bad_line}
-use Rattle.lines.specs.declared.read.Flow.{Flow}
-use Rattle.lines.specs.declared.read.Flow.TheVariants.{Number, Bad}
 
 -- ---- lines of the input
 
@@ -35,8 +33,8 @@ unfoldable pub value_of : List ℕ → ℕ
 value_of l = value_after 0 l
 
 -- what the code finds in a line
-abbrev pub flow_of : List ℕ → Flow
-flow_of l = choose (is_flow l) (Number (value_of l)) Bad
+abbrev pub flow_of : List ℕ → Option ℕ
+flow_of l = choose (is_flow l) (Some (value_of l)) None
 
 -- ---- the whole
 

@@ -1,10 +1,9 @@
-use Prim.Native.Nat.{◌-◌}
-use lib.ListN.{length}
+use Rattle.std.proofs.Common.{◌+◌}
+use Rattle.std.specs.Iterator.Adapters.{enumerate_source, enumerate_count}
+use Rattle.lines.specs.Transcript.{lines_of}
 use Rattle.lines.proofs.Turns.{Done}
 use Rattle.lines.proofs.each_line.Given as goal
 
-abbrev pub invariant-loop-at : goal.invariant-loop-at
-invariant-loop-at l = Done l.input l.initial.words l.initial.out l.words l.out l.at l.line l.end
-
-abbrev pub decreases-loop-at : goal.decreases-loop-at
-decreases-loop-at l = length l.input - l.at
+abbrev pub invariant-loop-i : goal.invariant-loop-i
+invariant-loop-i l =
+    Done (lines_of l.input) l.initial.words l.initial.page (lines_of (enumerate_source l.i-iterator).rest.now) l.words l.page (enumerate_count l.i-iterator + 1)

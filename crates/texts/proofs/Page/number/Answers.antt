@@ -1,7 +1,7 @@
 -- What the kit writes is the decimal.
 use Rattle.std.proofs.Common.{◌∙◌}
 use Rattle.texts.proofs.Decimals.{decimal_is}
-use Rattle.texts.proofs.number.Goals as goal
+use Rattle.texts.proofs.Page.number.Goals as goal
 
 pub text-requires : goal.text-requires
 text-requires c =
