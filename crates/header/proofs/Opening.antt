@@ -8,7 +8,7 @@ use lib.Dec.{T, leb, eqb, le→leb, leb→le, eqb→eq}
 use lib.Pow.{pow_mono, shr-shr, shr_lt}
 use native.Mathlib.Nat.{mul-le-mul, mod-eq_of_lt}
 use lib.ListN.{length}
-use Rattle.std.specs.Prelude.{Option, Some, None, Result, Err, option_map, ok_or}
+use Rattle.std.specs.Prelude.{Option, Some, None, IfSome, Result, Ok, Err, option_map, ok_or}
 use Rattle.model.specs.Lists.{choose}
 use Rattle.model.specs.Shapes.{known_shape, valid_width, rows_of}
 use Rattle.model.specs.Slots.{known_bits, valid_spread}
@@ -157,3 +157,8 @@ good-known ws g =
 pub unopened : {X E : Type 0} (f : X → Wall) (o : Option X) (ws : List ℕ) (r b : E) → option_map f o ≡ opened_of ws → ◌≡◌ {A = Result X E} (Err r) (ok_or o b) → (r ≡ b) × T (not (good ws))
 unopened f None ws r b e h = (cc, not_opened ws e)
 unopened f (Some o) ws r b e h = let z : ◌≡◌ {A = ℕ} 0 1 = cc in absurd (omega arith)
+
+-- and where one is, it is opened over these words
+pub same_words : {X E : Type 0} (f : X → List ℕ) (o : Option X) (ws : List ℕ) (x : X) (b : E) → IfSome o (λ x. f x ≡ ws) → ◌≡◌ {A = Result X E} (Ok x) (ok_or o b) → f x ≡ ws
+same_words f None ws x b h e = let z : ◌≡◌ {A = ℕ} 0 1 = cc in absurd (omega arith)
+same_words f (Some y) ws x b h e = let z : x ≡ y = cc in ap f z ∙ h
