@@ -21,8 +21,7 @@ use Rattle.model.proofs.OwnSteps.{number_lt}
 use Rattle.model.proofs.Steps.{holds_none, holds_one}
 use Rattle.layout.specs.declared.Wall as layout
 use Rattle.layout.specs.Views.{header_of}
-use Rattle.uppers.specs.declared.Judged.{Judged}
-use Rattle.uppers.specs.declared.Judged.TheVariants as judged
+use Rattle.std.specs.Prelude.{Option, Some, None}
 use Rattle.uppers.specs.Judge.{verdict}
 use Rattle.uppers.proofs.Verdicts.{said-not, said-sound}
 use Rattle.whole.specs.declared.Tally.{Tally}
@@ -83,14 +82,14 @@ flag_one b f = go (flag b) (flag_le b) f
     go (suc (suc m)) l f = absurd (omega arith)
 
 -- what the code found of it: the verdict r, which is sound with the sum c
-module _ (v : Wall) (i : ℕ) (r : Judged) (c : ℕ) (w : r ≡ verdict (sound_at v i) (sum (counts_at v i))) (is : r ≡ judged.Sound c) where
+module _ (v : Wall) (i : ℕ) (r : Option ℕ) (c : ℕ) (w : r ≡ verdict (sound_at v i) (sum (counts_at v i))) (is : r ≡ Some c) where
   told-sound : T (sound_at v i)
   told-sound = subst T (sym (said-sound (sound_at v i) (sum (counts_at v i)) (sym w ∙ is)).0) tt
 
   told-sum : c ≡ sum (counts_at v i)
   told-sum = sym (said-sound (sound_at v i) (sum (counts_at v i)) (sym w ∙ is)).1
 
-pub told-not : (v : Wall) (i : ℕ) (r : Judged) → r ≡ verdict (sound_at v i) (sum (counts_at v i)) → r ≡ judged.Unsound → T (not (sound_at v i))
+pub told-not : (v : Wall) (i : ℕ) (r : Option ℕ) → r ≡ verdict (sound_at v i) (sum (counts_at v i)) → r ≡ None → T (not (sound_at v i))
 told-not v i r w h = subst (λ b. T (not b)) (sym (said-not (sound_at v i) (sum (counts_at v i)) (sym w ∙ h))) tt
 
 -- and its packed word n
@@ -101,7 +100,7 @@ module _ (v : Wall) (i n : ℕ) (k : n ≡ (bucket_at v i).packed) where
   flagged : (n / 2 ^ 40 % 2 ≡ 0 → ⊥) → flag (bucket_at v i) ≡ 1
   flagged f = flag_one (bucket_at v i) (λ z. f (ap (λ x. x / 2 ^ 40 % 2) k ∙ z))
 
-module _ (v : Wall) (i : ℕ) (t : Tally) (p : Passed v i t) (r : Judged) (c : ℕ) (w : r ≡ verdict (sound_at v i) (sum (counts_at v i))) (is : r ≡ judged.Sound c) where
+module _ (v : Wall) (i : ℕ) (t : Tally) (p : Passed v i t) (r : Option ℕ) (c : ℕ) (w : r ≡ verdict (sound_at v i) (sum (counts_at v i))) (is : r ≡ Some c) where
   s : T (sound_at v i)
   s = told-sound v i r c w is
 
@@ -184,7 +183,7 @@ module _ (ws : List ℕ) (v : layout.Wall) (o : Open ws v) where
       subst (λ (h : Header). h.total < 2 ^ 47) (open_header ws v o) (omega (arith, l.within, l.limit-high, count_end_most ws v o))
 
   -- the number that a flagged bucket holds is one of a full-size bucket
-  pub number-few : (i n c : ℕ) (r : Judged) → r ≡ verdict (sound_at (parse ws) i) (sum (counts_at (parse ws) i)) → r ≡ judged.Sound c
+  pub number-few : (i n c : ℕ) (r : Option ℕ) → r ≡ verdict (sound_at (parse ws) i) (sum (counts_at (parse ws) i)) → r ≡ Some c
       → n ≡ (bucket_at (parse ws) i).packed → (n / 2 ^ 40 % 2 ≡ 0 → ⊥) → n / 2 ^ 48 < 4096
   number-few i n c r w h k f =
       let l = open_limits ws v o in

@@ -1,15 +1,11 @@
 -- What the check of a whole wall has found when it passed its first i buckets.
-use Rattle.std.specs.Prelude.{◌≢◌, ◌≡◌, not, List, ℕ, ◌+◌, ◌/◌, ◌%◌, ◌^◌, ◌≤◌, ◌<◌, T, get_or, length}
+use Rattle.std.specs.Prelude.{◌≢◌, ◌≡◌, not, List, ℕ, ◌+◌, ◌/◌, ◌%◌, ◌^◌, ◌≤◌, ◌<◌, T, get_or, length, Option, Some, None, Result, Ok, Err}
 use Rattle.model.specs.Lists.{lowest, sum, tabulate}
 use Rattle.model.specs.Packed.{bit}
 use Rattle.model.specs.Levels.{sign}
 use Rattle.model.specs.Walls.{Wall, buckets_in}
 use Rattle.model.specs.Sound.{bucket_at, counts_at, holds_number, sound_at, sound_buckets}
 use Rattle.whole.specs.declared.Tally.{Tally}
-use Rattle.whole.specs.declared.Step.{Step}
-use Rattle.whole.specs.declared.Step as step
-use Rattle.whole.specs.declared.Found.{Found}
-use Rattle.whole.specs.declared.Found as found
 
 -- ---- a bit for each number
 
@@ -46,11 +42,11 @@ pub record Passed (v : Wall) (i : ℕ) (t : Tally) : Type 0 where
   pub few : t.flagged ≤ i
 
 -- bucket i after them
-abbrev pub Weighed : Wall → ℕ → List ℕ → Step → Type 0
-Weighed v i seen (step.TheVariants.On t) = Passed v (i + 1) t × Seen v (i + 1) seen
-Weighed v i seen step.TheVariants.Unsound = T (not (sound_at v i))
+abbrev pub Weighed : Wall → ℕ → List ℕ → Option Tally → Type 0
+Weighed v i seen (Some t) = Passed v (i + 1) t × Seen v (i + 1) seen
+Weighed v i seen None = T (not (sound_at v i))
 
--- all buckets
-abbrev pub Counted : Wall → Found → Type 0
-Counted v (found.TheVariants.Sound t) = Passed v (buckets_in v.header) t
-Counted v (found.TheVariants.Unsound i) = T (not (sound_buckets v)) × (i ≡ lowest (buckets_in v.header) (sound_at v))
+-- all buckets, or the lowest unsound one
+abbrev pub Counted : Wall → Result Tally ℕ → Type 0
+Counted v (Ok t) = Passed v (buckets_in v.header) t
+Counted v (Err i) = T (not (sound_buckets v)) × (i ≡ lowest (buckets_in v.header) (sound_at v))
