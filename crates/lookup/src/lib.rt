@@ -1,26 +1,20 @@
 #![tactic(auto)]
 
 ghost use Rattle.std.specs.Prelude.{◌≡◌};
-ghost use Rattle.answer.specs.Answers.{outcome_of};
+ghost use Rattle.answer.specs.Answers.{outcome_of, answer_of};
 ghost use Rattle.model.specs.Calls as model;
 
-use answer::Answer;
-use header::Opened;
-use uppers::Judged;
+use answer::Refusal;
 
 // The count of a flow.
-pub fn lookup(words: &[u64], flow: u64) -> Answer
-    ensures { outcome_of result words.now ≡ model.lookup words.now flow }
+pub fn lookup(words: &[u64], flow: u64) -> Result<u64, Refusal>
+    ensures { outcome_of (answer_of result) words.now ≡ model.lookup words.now flow }
 {
-    let Opened::Good(v) = header::open(words) else {
-        return Answer::refused(7);
-    };
+    let wall = header::open(words).ok_or(Refusal::BadHeader)?;
+    let v = wall.header;
     if packed::pow2(v.bits) <= flow {
-        return Answer::refused(8);
+        return Err(Refusal::NoFlow);
     }
     let s = spreads::slot_of(v.bits, v.spread, flow);
-    let Judged::Sound(count) = found::read(words, v, s / 64, s % 64) else {
-        return Answer::refused(9);
-    };
-    Answer::done(count)
+    found::read(&wall, s / 64, s % 64).ok_or(Refusal::Unsound)
 }

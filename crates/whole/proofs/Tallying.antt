@@ -9,7 +9,6 @@ use native.Mathlib.Omega.{arith}
 use lib.Dec.{T, lit<}
 use lib.Pow.{pow_mono}
 use lib.ListN.{get_or, replicate}
-use Rattle.std.specs.Prelude.{Option, Some, None}
 use Rattle.model.specs.Lists.{sum, tabulate}
 use Rattle.model.specs.Levels.{sign}
 use Rattle.model.specs.Packed.{bit}
@@ -22,6 +21,7 @@ use Rattle.model.proofs.OwnSteps.{number_lt}
 use Rattle.model.proofs.Steps.{holds_none, holds_one}
 use Rattle.layout.specs.declared.Wall as layout
 use Rattle.layout.specs.Views.{header_of}
+use Rattle.std.specs.Prelude.{Option, Some, None}
 use Rattle.uppers.specs.Judge.{verdict}
 use Rattle.uppers.proofs.Verdicts.{said-not, said-sound}
 use Rattle.whole.specs.declared.Tally.{Tally}

@@ -3,8 +3,6 @@ use Rattle.std.specs.Prelude.{◌≢◌, ◌≡◌, not, List, ℕ, ◌+◌, ◌
 use Rattle.model.specs.Lists.{lowest, sum, tabulate}
 use Rattle.model.specs.Packed.{bit}
 use Rattle.model.specs.Levels.{sign}
-use Rattle.answer.specs.declared.Fault.{Fault}
-use Rattle.answer.specs.declared.Fault.TheVariants.{BadHeader, Unsound, UnsoundWall}
 use Rattle.model.specs.Walls.{Wall, buckets_in}
 use Rattle.model.specs.Sound.{bucket_at, counts_at, holds_number, sound_at, sound_buckets}
 use Rattle.whole.specs.declared.Tally.{Tally}
@@ -49,8 +47,6 @@ Weighed v i seen (Some t) = Passed v (i + 1) t × Seen v (i + 1) seen
 Weighed v i seen None = T (not (sound_at v i))
 
 -- all buckets, or the lowest unsound one
-abbrev pub Counted : Wall → Result Tally Fault → Type 0
+abbrev pub Counted : Wall → Result Tally ℕ → Type 0
 Counted v (Ok t) = Passed v (buckets_in v.header) t
-Counted v (Err (Unsound i)) = T (not (sound_buckets v)) × (i ≡ lowest (buckets_in v.header) (sound_at v))
-Counted v (Err BadHeader) = ⊥
-Counted v (Err UnsoundWall) = ⊥
+Counted v (Err i) = T (not (sound_buckets v)) × (i ≡ lowest (buckets_in v.header) (sound_at v))

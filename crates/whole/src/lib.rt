@@ -30,7 +30,7 @@ fn mark(seen: &mut [u64; 64], number: u64) -> u64
     packed::bit(x, number % 64)
 }
 
-// Bucket i after those before it, if it is sound. `pass` shows what this asks.
+// Bucket i after those before it, or nothing where it is unsound. `pass` shows what this asks.
 fn weigh(wall: &Opened<'_>, i: u64, t: Tally, seen: &mut [u64; 64]) -> Option<Tally>
     requires { (i < buckets_in (header_of wall.now.header)) × Passed (parse wall.now.words.now) i t × Seen (parse wall.now.words.now) i seen.old }
     ensures { Weighed (parse wall.now.words.now) i seen.new result }
@@ -48,19 +48,18 @@ fn weigh(wall: &Opened<'_>, i: u64, t: Tally, seen: &mut [u64; 64]) -> Option<Ta
     })
 }
 
-// All buckets, up to the first unsound one.
-fn pass(wall: &Opened<'_>) -> Result<Tally, Fault>
+// All buckets, or the lowest unsound one.
+fn pass(wall: &Opened<'_>) -> Result<Tally, u64>
     ensures { Counted (parse wall.now.words.now) result }
 {
-    let n = header::buckets(wall.header);
     let mut seen = [0u64; 64];
     let mut t = Tally {
         sum: 0,
         flagged: 0,
         again: 0,
     };
-    for i in 0..n {
-        t = weigh(wall, i, t, &mut seen).ok_or(Fault::Unsound(i))?;
+    for i in 0..header::buckets(wall.header) {
+        t = weigh(wall, i, t, &mut seen).ok_or(i)?;
     }
     Ok(t)
 }
@@ -70,7 +69,10 @@ fn fulls_zero(wall: &Opened<'_>) -> bool
     ensures { result ≡ fulls_zero (parse wall.now.words.now) }
 {
     let v = wall.header;
-    v.used == v.full || zeros::zero_from(wall.words, header::full_at(v, v.used))
+    if v.used == v.full {
+        return true;
+    }
+    zeros::zero_from(wall.words, header::full_at(v, v.used))
 }
 
 // Whether the wall is sound besides its buckets, which `check` found sound.
@@ -78,11 +80,10 @@ fn rest_sound(wall: &Opened<'_>, t: Tally) -> bool
     requires { Passed (parse wall.now.words.now) (buckets_in (parse wall.now.words.now).header) t }
     ensures { result ≡ sound_rest (parse wall.now.words.now) }
 {
-    let v = wall.header;
-    if t.sum != v.total {
+    if t.sum != wall.header.total {
         return false;
     }
-    if t.flagged != v.used {
+    if t.flagged != wall.header.used {
         return false;
     }
     if 0 < t.again {
@@ -96,9 +97,10 @@ pub fn check(words: &[u64]) -> Result<(), Fault>
     ensures { outcome_of (checked_of result) words.now ≡ model.check words.now }
 {
     let wall = header::open(words).ok_or(Fault::BadHeader)?;
-    let t = pass(&wall)?;
-    if !rest_sound(&wall, t) {
-        return Err(Fault::UnsoundWall);
+    let t = pass(&wall).map_err(Fault::Unsound)?;
+    if rest_sound(&wall, t) {
+        Ok(())
+    } else {
+        Err(Fault::UnsoundWall)
     }
-    Ok(())
 }

@@ -1,39 +1,44 @@
-use mathlib.Core.Path.{◌≡◌, subst}
-use mathlib.Core.Bool.{true, false, not}
+use borrow.Author.Rules.{rules}
+use mathlib.Core.Path.{◌≡◌, sym, ap, ◌∙◌, subst}
+use mathlib.Core.Bool.{Bool, true, false, not}
 use mathlib.Core.List.{List}
 use Prim.Native.Nat.{ℕ}
 use lib.Dec.{T}
-use Rattle.std.specs.Prelude.{⊤, Result, Ok, Err}
+use Rattle.std.specs.Prelude.{Result, Ok, Err}
 use Rattle.std.proofs.lemmas.Result.{err_from_is_err_and}
-use Rattle.model.specs.Walls.{buckets_in, parse}
+use Rattle.model.specs.Walls.{buckets_in, good, parse}
 use Rattle.model.specs.Sound.{sound_rest}
 use Rattle.model.specs.Calls.{check}
-use Rattle.answer.specs.declared.Fault.{Fault}
-use Rattle.answer.specs.declared.Fault.TheVariants.{BadHeader, Unsound, UnsoundWall}
-use Rattle.answer.specs.Answers.{outcome_of, checked_of}
+use Rattle.answer.specs.declared.Fault.TheVariants.{BadHeader}
 use Rattle.header.specs.declared.Opened.{Opened}
-use Rattle.header.proofs.Opening.{unopened, same_words}
+use Rattle.header.proofs.Opening.{unopened}
 use Rattle.whole.specs.declared.Tally.{Tally}
 use Rattle.whole.specs.Check.{Counted, Passed}
 use Rattle.whole.proofs.Checking.{all_sound, check_0, check_13, check_7, check_9}
 use Rattle.whole.proofs.check.Goals as goal
 
--- o is the wall as the code opened it
-module _ (ws : List ℕ) (o : Opened) (same : o.words.now ≡ ws) where
-  abbrev Says : Result ⊤ Fault → List ℕ → Type 0
-  Says r ws = outcome_of (checked_of r) ws ≡ check ws
+-- o is the wall as the code opened it, and f what it found of the buckets
+module _ (ws : List ℕ) (o : Opened) (same : o.words.now ≡ ws) (f : Result Tally ℕ) (counts : Counted (parse o.words.now) f) where
+  good_words : T (good ws)
+  good_words = subst (λ ws. T (good ws)) same o.good
 
-  refused : (e : Fault) → Counted (parse o.words.now) (Err e) → Says (Err e) ws
-  refused (Unsound i) z = subst (Says (Err (Unsound i))) same (check_9 o.words.now o.good i z.0 z.1)
-  refused BadHeader z = absurd z
-  refused UnsoundWall z = absurd z
+  counted : Counted (parse ws) f
+  counted = subst (λ ws. Counted (parse ws) f) same counts
 
-  module _ (t : Tally) (passed : Passed (parse o.words.now) (buckets_in (parse o.words.now).header) t) where
-    accepts : true ≡ sound_rest (parse o.words.now) → Says (Ok tt) ws
-    accepts e = subst (Says (Ok tt)) same (check_0 o.words.now o.good (all_sound (parse o.words.now) t passed) (subst T e tt))
+  refused_9 : (i : ℕ) → f ≡ Err i → record { number = 9; value = i; words = ws } ≡ check ws
+  refused_9 i e = let z = subst (λ (f : Result Tally ℕ). Counted (parse ws) f) e counted in check_9 ws good_words i z.0 z.1
 
-    refused_13 : false ≡ sound_rest (parse o.words.now) → Says (Err UnsoundWall) ws
-    refused_13 e = subst (Says (Err UnsoundWall)) same (check_13 o.words.now o.good (all_sound (parse o.words.now) t passed) (subst (λ b. T (not b)) e tt))
+  module _ (t : Tally) (all : f ≡ Ok t) where
+    passed : Passed (parse ws) (buckets_in (parse ws).header) t
+    passed = subst (λ (f : Result Tally ℕ). Counted (parse ws) f) all counted
+
+    module _ (b : Bool) (rest : b ≡ sound_rest (parse o.words.now)) where
+      accepts : b ≡ true → record { number = 0; value = 0; words = ws } ≡ check ws
+      accepts y = check_0 ws good_words (all_sound (parse ws) t passed) (subst T (sym y ∙ rest ∙ ap (λ ws. sound_rest (parse ws)) same) tt)
+
+      refused_13 : b ≡ false → record { number = 13; value = 0; words = ws } ≡ check ws
+      refused_13 y =
+          check_13 ws good_words (all_sound (parse ws) t passed) (subst (λ b. T (not b)) (sym y ∙ rest ∙ ap (λ ws. sound_rest (parse ws)) same) tt)
 
 pub returns-in_err-wall : goal.returns-in_err-wall
 returns-in_err-wall c =
@@ -43,20 +48,13 @@ returns-in_err-wall c =
     rw (p.1, p.2, u.0) (check_7 ws u.1)
 
 pub returns-in_err-t : goal.returns-in_err-t
-returns-in_err-t c =
-    let o = c.in_ok-wall.wall in
-    let same = same_words _ c.open.result c.args.words.now o BadHeader c.open.ensures.words c.in_ok-wall.ensures.value in
-    let p = err_from_is_err_and c.from_residual-in_err-t.result c.from_residual-in_err-t.ensures.1 in
-    rw (p.1, p.2) (refused c.args.words.now o same c.in_err-t.field-0.0 c.in_err-t.ensures)
+returns-in_err-t c = search (rules, refused_9)
 
-pub returns-then-not-rest_sound : goal.returns-then-not-rest_sound
-returns-then-not-rest_sound c =
-    let o = c.in_ok-wall.wall in
-    let same = same_words _ c.open.result c.args.words.now o BadHeader c.open.ensures.words c.in_ok-wall.ensures.value in
-    refused_13 c.args.words.now o same c.in_ok-t.t c.in_ok-t.ensures c.if-not-rest_sound.ensures
+pub rest_sound-requires : goal.rest_sound-requires
+rest_sound-requires c = search (rules, passed)
 
-pub returns : goal.returns
-returns c =
-    let o = c.in_ok-wall.wall in
-    let same = same_words _ c.open.result c.args.words.now o BadHeader c.open.ensures.words c.in_ok-wall.ensures.value in
-    accepts c.args.words.now o same c.in_ok-t.t c.in_ok-t.ensures c.if-not-rest_sound.ensures
+pub returns-then-rest_sound : goal.returns-then-rest_sound
+returns-then-rest_sound c = search (rules, accepts)
+
+pub returns-else-rest_sound : goal.returns-else-rest_sound
+returns-else-rest_sound c = search (rules, refused_13)
