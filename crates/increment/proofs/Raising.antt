@@ -1,6 +1,6 @@
 -- One more of a flow: its refusals, and the step where none of 7 to 10 is met.
 use mathlib.Core.Logic.{◌≢◌}
-use mathlib.Core.Path.{◌≡◌, sym, ap, ap₂, ◌∙◌, subst}
+use mathlib.Core.Path.{◌≡◌, refl, sym, ap, ap₂, ◌∙◌, subst}
 use mathlib.Core.Bool.{not, ◌&&◌}
 use mathlib.Core.List.{List, [], ◌∷◌, ◌++◌}
 use Prim.Native.Nat.{ℕ, ◌+◌, ◌^◌, ◌≤◌, ◌<◌}
@@ -11,20 +11,19 @@ use lib.Arith.{lt→nleb}
 use lib.ListN.{get_or}
 use Rattle.model.specs.Walls.{Wall, Header, flows, count_end, bucket_of, place_of, flatten, good, parse}
 use Rattle.model.specs.Sound.{bucket_at, full_for, counts_at, sound_at, count}
-use Rattle.model.specs.Calls.{Refusal, refuse, first_met, outcome, bucket_refusals, overflows, step, step_refusals, raised_by, increment}
+use Rattle.model.specs.Calls as model
+use Rattle.model.specs.Calls.{refuse, first_met, outcome, bucket_refusals, overflows, step, step_refusals, raised_by, increment}
 use Rattle.model.proofs.Headers.{eq-eqb}
 use Rattle.model.proofs.Sums.{sum-at}
 use Rattle.model.proofs.Tools.{to_not-not}
 use Rattle.model.proofs.Buckets.{bucket_facts}
 use Rattle.model.proofs.Refusals.{first-met, first-skip, answer_no, refused_as}
 use Rattle.model.proofs.Eleven.{eleven_drops}
-use Rattle.answer.specs.declared.Answer.{Answer}
-use Rattle.answer.specs.Answers.{reply_of, outcome_of}
-use Rattle.answer.proofs.Said.{said}
 use Rattle.layout.specs.declared.Wall as layout
 use Rattle.layout.specs.Views.{header_of}
-use Rattle.uppers.specs.declared.Judged.{Judged}
-use Rattle.uppers.specs.declared.Judged.TheVariants as judged
+use Rattle.std.specs.Prelude.{Option, Some, None, Result, Ok, Err, ok_or}
+use Rattle.answer.specs.declared.Refusal.{Refusal}
+use Rattle.answer.specs.declared.Refusal.TheVariants.{Unsound}
 use Rattle.uppers.specs.Judge.{verdict}
 use Rattle.uppers.proofs.Verdicts.{said-sound, said-not}
 use Rattle.header.specs.Headers.{Open}
@@ -45,13 +44,13 @@ module _ (ws : List ℕ) (i a : ℕ) where
   abbrev after : List ℕ
   after = flatten (step (parse ws) i a c ((parse ws).header.total + 1))
 
-  abbrev nine : Refusal
+  abbrev nine : model.Refusal
   nine = refuse 9 (not (sound_at (parse ws) i))
 
-  abbrev ten : Refusal
+  abbrev ten : model.Refusal
   ten = refuse 10 (eqb (parse ws).header.total (parse ws).header.limit)
 
-  abbrev twelve : Refusal
+  abbrev twelve : model.Refusal
   twelve = refuse 12 (overflows (parse ws) i a c && eqb (parse ws).header.used (parse ws).header.full)
 
   refused : (n : ℕ) → 0 < n → first_met (nine ∷ ten ∷ twelve ∷ []) ≡ n → record { number = n; value = 0; words = ws } ≡ one_more ws i a
@@ -82,13 +81,24 @@ module _ (ws : List ℕ) (i a : ℕ) where
 pub total-small : (ws : List ℕ) (v : layout.Wall) → Open ws v → v.total < 2 ^ 47
 total-small ws v o = let l = open_limits ws v o in omega (arith, l.within, l.limit-high, count_end_most ws v o)
 
--- ---- by what the code found: r judges the bucket, and m is what stands beside a sound one
+-- ---- by what the code found
 
-module _ (ws : List ℕ) (i a : ℕ) (r : Judged) (m : ℕ) (judges : r ≡ verdict (sound_at (parse ws) i) m) where
-  pub unsound_9 : (s : Answer) → reply_of s ≡ record { number = 9; value = 0 } → r ≡ judged.Unsound → outcome_of s ws ≡ one_more ws i a
-  unsound_9 s e z = said s 9 0 ws e ∙ at-nine ws i a (subst (λ b. T (not b)) (sym (said-not (sound_at (parse ws) i) m (sym judges ∙ z))) tt)
+-- a bucket that is judged first, with refusal 9
+pub not_found : (r : Option ℕ) (e : Refusal) → ◌≡◌ {A = Result ℕ Refusal} (Err e) (ok_or r Unsound) → (e ≡ Unsound) × (r ≡ None)
+not_found None e h = (cc, refl)
+not_found (Some x) e h = let z : ◌≡◌ {A = ℕ} 0 1 = cc in absurd (omega arith)
 
-  module _ (x : ℕ) (says : r ≡ judged.Sound x) where
+pub found : (r : Option ℕ) (x : ℕ) → ◌≡◌ {A = Result ℕ Refusal} (Ok x) (ok_or r Unsound) → r ≡ Some x
+found None x h = let z : ◌≡◌ {A = ℕ} 0 1 = cc in absurd (omega arith)
+found (Some y) x h = let z : x ≡ y = cc in ap Some (sym z)
+
+-- r judges the bucket, and m is what stands beside a sound one
+
+module _ (ws : List ℕ) (i a : ℕ) (r : Option ℕ) (m : ℕ) (judges : r ≡ verdict (sound_at (parse ws) i) m) where
+  pub unsound_9 : r ≡ None → record { number = 9; value = 0; words = ws } ≡ one_more ws i a
+  unsound_9 z = at-nine ws i a (subst (λ b. T (not b)) (sym (said-not (sound_at (parse ws) i) m (sym judges ∙ z))) tt)
+
+  module _ (x : ℕ) (says : r ≡ Some x) where
     pub told-sound : T (sound_at (parse ws) i)
     told-sound = subst T (sym (said-sound (sound_at (parse ws) i) m (sym judges ∙ says)).0) tt
 
@@ -97,13 +107,13 @@ module _ (ws : List ℕ) (i a : ℕ) (r : Judged) (m : ℕ) (judges : r ≡ verd
 
     module _ (v : layout.Wall) (o : Open ws v) where
       -- the limit of the code is that of the wall
-      pub total_10 : (s : Answer) → reply_of s ≡ record { number = 10; value = 0 } → v.total ≡ v.limit → outcome_of s ws ≡ one_more ws i a
-      total_10 s e z =
+      pub total_10 : v.total ≡ v.limit → record { number = 10; value = 0; words = ws } ≡ one_more ws i a
+      total_10 z =
           let h = open_header ws v o in
-          said s 10 0 ws e ∙ at-ten ws i a told-sound (sym (ap (λ (h : Header). h.total) h) ∙ z ∙ ap (λ (h : Header). h.limit) h)
+          at-ten ws i a told-sound (sym (ap (λ (h : Header). h.total) h) ∙ z ∙ ap (λ (h : Header). h.limit) h)
 
-      pub limit_10 : (s : Answer) → reply_of s ≡ record { number = 10; value = 0 } → v.limit ≡ v.total → outcome_of s ws ≡ one_more ws i a
-      limit_10 s e z = total_10 s e (sym z)
+      pub limit_10 : v.limit ≡ v.total → record { number = 10; value = 0; words = ws } ≡ one_more ws i a
+      limit_10 z = total_10 (sym z)
 
       module _ (below : v.total ≡ v.limit → ⊥) (c : ℕ) (counts : c ≡ get_or (counts_at (parse ws) i) a 0) where
         pub next-fits : c + 1 < count_end (header_of v)

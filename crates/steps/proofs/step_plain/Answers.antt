@@ -22,43 +22,34 @@ overflow_shr-was c = omega (arith, (open_known c.args.words.now c.args.v c.requi
 
 pub of-shape-requires : goal.of-shape-requires
 of-shape-requires c =
-    let ws = c.args.words.now in
-    let v = c.args.v in
     let r = c.requires.0 in
-    let k = open_known ws v r.header in
+    let k = open_known _ _ r.header in
     (k.shape_low, k.shape_high)
 
 pub bucket_at-requires : goal.bucket_at-requires
 bucket_at-requires c =
-    let ws = c.args.words.now in
-    let v = c.args.v in
     let r = c.requires.0 in
-    (open_known ws v r.header, r.bucket)
+    (open_known _ _ r.header, r.bucket)
 
 pub step_first-requires : goal.step_first-requires
 step_first-requires c =
-    let ws = c.args.words.now in
     let v = c.args.v in
-    let i = c.args.i in
     let a = c.args.at in
     let n = c.args.count in
     let r = c.requires.0 in
     let z = c.of-shape.result in
     let es = c.of-shape.ensures in
-    let at = c.bucket_at.result in
     let q = c.bucket_at.ensures in (
-      inside ws v i a n r z es at q,
-      subst (λ (b : model.Bucket). RaisesIn z b a n) (sym (lies ws v i a n r z es at q)) (raises ws v i a n r z es c.requires.2),
-      subst (λ (b : model.Bucket). Stays z b a n) (sym (lies ws v i a n r z es at q)) (stays ws v i a n r z es c.requires.2 c.args.was c.requires.1 c.if-count-v.true),
+      inside _ _ _ _ _ r _ es _ q,
+      subst (λ (b : model.Bucket). RaisesIn z b a n) (sym (lies _ _ _ _ _ r _ es _ q)) (raises _ _ _ _ _ r _ es c.requires.2),
+      subst (λ (b : model.Bucket). Stays z b a n) (sym (lies _ _ _ _ _ r _ es _ q)) (stays _ _ _ _ _ r _ es c.requires.2 c.args.was c.requires.1 c.if-count-v.true),
     )
 
 pub put_totals-requires : goal.put_totals-requires
 put_totals-requires c =
-    let ws = c.args.words.now in
-    let v = c.args.v in
     let r = c.requires.0 in
-    let l = open_limits ws v r.header in
-    (omega (arith, (open_good ws v r.header).long, c.step_first.auto.words), l.full_most, omega (arith, l.full_most, l.spare_full), open_spread ws v r.header)
+    let l = open_limits _ _ r.header in
+    (omega (arith, (open_good _ _ r.header).long, c.step_first.auto.words), l.full_most, omega (arith, l.full_most, l.spare_full), open_spread _ _ r.header)
 
 pub returns-then-count-v : goal.returns-then-count-v
 returns-then-count-v c =
@@ -72,8 +63,8 @@ returns-then-count-v c =
     let es = c.of-shape.ensures in
     let at = c.bucket_at.result in
     let q = c.bucket_at.ensures in
-    let k : bucket_in z ws at ≡ bucket_at (parse ws) i = lies ws v i a n r z es at q in
+    let k : bucket_in z ws at ≡ bucket_at (parse ws) i = lies _ _ _ _ _ r _ es _ q in
     ap (λ (x : List ℕ). record { number = 0; value = n; words = x }) c.put_totals.ensures
-    ∙ step_held ws v i a n r c.args.total (c.slice_known-1.given 0).fits c.step_first.new.words at (holding z.width (rows_in z) (set (own_counts z.width (rows_in z) (bucket_in z ws at)) a n)) c.requires.2
-    (stays_room ws v i a n r z es c.requires.2 (stays ws v i a n r z es c.requires.2 c.args.was c.requires.1 c.if-count-v.true)) q
-    (held_of ws v i a n r z es (holding z.width (rows_in z) (set (own_counts z.width (rows_in z) (bucket_in z ws at)) a n)) (ap (λ (b : model.Bucket). holding z.width (rows_in z) (set (own_counts z.width (rows_in z) b) a n)) k)) c.step_first.ensures
+    ∙ step_held _ _ _ _ _ r c.args.total (c.slice_known-1.given 0).fits c.step_first.new.words at (holding z.width (rows_in z) (set (own_counts z.width (rows_in z) (bucket_in z ws at)) a n)) c.requires.2
+    (stays_room _ _ _ _ _ r _ es c.requires.2 (stays _ _ _ _ _ r _ es c.requires.2 c.args.was c.requires.1 c.if-count-v.true)) q
+    (held_of _ _ _ _ _ r _ es (holding z.width (rows_in z) (set (own_counts z.width (rows_in z) (bucket_in z ws at)) a n)) (ap (λ (b : model.Bucket). holding z.width (rows_in z) (set (own_counts z.width (rows_in z) b) a n)) k)) c.step_first.ensures
