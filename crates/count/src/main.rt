@@ -24,7 +24,7 @@ fn respond(input: &[u8], n: usize, out: &mut [u8]) -> usize
     ensures examples { Examples }
 {
     let mut words = [0u64; 74];
-    fresh::raise(&mut words, 3, 1, 6, 100, 1, 0);
+    let _ = fresh::raise(&mut words, 3, 1, 6, 100, 1, 0);
     lines::lines(&input[..n], &mut words, out)
 }
 

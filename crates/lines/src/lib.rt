@@ -23,7 +23,7 @@ fn each_line(input: &[u8], words: &mut [u64], page: &mut Page)
             page.bad_line(i as u64 + 1);
             return;
         };
-        page.answer(flow, increment::increment(words, flow));
+        page.answer(flow, increment::increment(words, flow).into());
     }
     page.totals(words);
 }

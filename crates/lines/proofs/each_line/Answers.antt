@@ -23,12 +23,12 @@ pub returns-in_default-clause-words : goal.returns-in_default-clause-words
 returns-in_default-clause-words c = bad_words c.loop-i.invariant c.requires c.in-Some.ensures.steps.0 c.in_default.ensures
 
 pub answer-requires : goal.answer-requires
-answer-requires c = flow-room c.loop-i.invariant c.requires c.in-Some.ensures.steps.0 c.increment.result c.increment.new.words c.in-Some-flow_in.ensures c.increment.ensures
+answer-requires c = flow-room c.loop-i.invariant c.requires c.in-Some.ensures.steps.0 c.into.result c.increment.new.words c.in-Some-flow_in.ensures (rw (← c.into.ensures) at c.increment.ensures)
 
 pub loop-i-preserved : goal.loop-i-preserved
 loop-i-preserved c =
     let s = c.in-Some.ensures.steps in
-    rw s.2 (flow-done c.loop-i.invariant c.requires s.0 c.increment.result c.increment.new.words c.in-Some-flow_in.ensures c.increment.ensures c.answer.ensures)
+    rw s.2 (flow-done c.loop-i.invariant c.requires s.0 c.into.result c.increment.new.words c.in-Some-flow_in.ensures (rw (← c.into.ensures) at c.increment.ensures) c.answer.ensures)
 
 pub totals-requires : goal.totals-requires
 totals-requires c = total-room c.loop-i.invariant c.requires c.in-None.ensures.steps.0.0
