@@ -1,30 +1,25 @@
 #![tactic(auto)]
 
 ghost use Rattle.std.specs.Prelude.{◌≡◌, ◌+◌, ◌*◌, ◌≤◌, ◌<◌, length, set};
-ghost use Rattle.answer.specs.Answers.{listing_of};
+ghost use Rattle.answer.specs.Answers.{listing_of, answer_of};
 ghost use Rattle.model.specs.Walls.{parse};
 ghost use Rattle.model.specs.Sound.{count};
 ghost use Rattle.model.specs.Calls as model;
 ghost use Rattle.model.specs.BusyLists.{busy_flows, written, busy};
-ghost use Rattle.header.specs.Headers.{Open};
 
-use answer::Answer;
+use answer::Refusal;
 use header::Opened;
-use layout::Wall;
 
 // How many flows count at least the floor. That does not depend on their order, so they are counted by slot. `busy` has checked the wall.
-fn listed(words: &[u64], v: Wall, floor: u64) -> u64
-    requires { Open words.now v × ((model.check words.now).number ≡ 0) }
-    ensures { (result ≡ length (busy_flows (parse words.now) floor)) × (result ≤ 4194304) }
+fn listed(wall: &Opened<'_>, floor: u64) -> u64
+    requires { (model.check wall.now.words.now).number ≡ 0 }
+    ensures { (result ≡ length (busy_flows (parse wall.now.words.now) floor)) × (result ≤ 4194304) }
 {
-    let n = packed::pow2(v.bits);
     let mut k: u64 = 0;
-    let mut slot: u64 = 0;
-    while slot < n {
-        if floor <= found::count(words, v, slot / 64, slot % 64) {
+    for slot in 0..packed::pow2(wall.header.bits) {
+        if floor <= found::count(wall, slot / 64, slot % 64) {
             k += 1;
         }
-        slot += 1;
     }
     k
 }
@@ -44,35 +39,31 @@ fn put(list: &mut [u64], at: usize, floor: u64, flow: u64, count: u64) -> usize
 
 // The entries of the flows that count at least the floor, which take the words before `end`: it stops with the last of them. `busy` has checked the wall
 // and the room.
-fn fill(words: &[u64], v: Wall, floor: u64, end: usize, list: &mut [u64])
-    requires { Open words.now v × ((model.check words.now).number ≡ 0) × (end ≡ 2 * length (busy_flows (parse words.now) floor)) × (end ≤ length list.old) }
-    ensures { list.new ≡ written (count (parse words.now)) (busy_flows (parse words.now) floor) list.old }
+fn fill(wall: &Opened<'_>, floor: u64, end: usize, list: &mut [u64])
+    requires { ((model.check wall.now.words.now).number ≡ 0) × (end ≡ 2 * length (busy_flows (parse wall.now.words.now) floor)) × (end ≤ length list.old) }
+    ensures { list.new ≡ written (count (parse wall.now.words.now)) (busy_flows (parse wall.now.words.now) floor) list.old }
 {
     let mut at: usize = 0;
     let mut flow: u64 = 0;
+    // No `for`: the last entry ends it, and not the last flow.
     while at < end {
-        let count = counts::count_of(words, v, flow);
+        let count = counts::count_of(wall, flow);
         at = put(list, at, floor, flow, count);
         flow += 1;
     }
 }
 
 // The busy list. The wall is checked once; then its counts are read where they lie, once to count the flows to list and once to write them.
-pub fn busy(words: &[u64], floor: u64, list: &mut [u64]) -> Answer
-    ensures { listing_of result words.now list.new ≡ busy words.now floor list.old }
+pub fn busy(words: &[u64], floor: u64, list: &mut [u64]) -> Result<u64, Refusal>
+    ensures { listing_of (answer_of result) words.now list.new ≡ busy words.now floor list.old }
 {
-    let Opened::Good(v) = header::open(words) else {
-        return Answer::refused(7);
-    };
-    let checked = whole::check(words);
-    if 0 < checked.number {
-        return Answer::refused(checked.number);
-    }
-    let k = listed(words, v, floor);
+    let wall = header::open(words).ok_or(Refusal::BadHeader)?;
+    whole::check(words)?;
+    let k = listed(&wall, floor);
     let end = 2 * k;
     if (list.len() as u64) < end {
-        return Answer::refused(14);
+        return Err(Refusal::ListShort);
     }
-    fill(words, v, floor, end as usize, list);
-    Answer::done(k)
+    fill(&wall, floor, end as usize, list);
+    Ok(k)
 }

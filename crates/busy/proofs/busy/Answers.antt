@@ -1,5 +1,3 @@
-use borrow.Author.Rules.{rules}
-use native.Mathlib.Omega.{arith}
 use mathlib.Core.Path.{◌≡◌, sym, ap, ap₂, ◌∙◌, subst}
 use mathlib.Core.List.{List}
 use Prim.Native.Nat.{ℕ, ◌*◌, ◌≤◌, ◌<◌}
@@ -10,65 +8,71 @@ use Rattle.model.specs.Sound.{count}
 use Rattle.model.specs.Calls.{Outcome, check}
 use Rattle.model.specs.BusyLists.{busy, busy_flows, written}
 use Rattle.model.proofs.BusyLists.{busy-refused, busy_short, busy-done}
-use Rattle.answer.specs.declared.Answer.{Answer}
-use Rattle.answer.specs.Answers.{reply_of, outcome_of, listing_of}
-use Rattle.answer.proofs.Said.{said-list}
-use Rattle.layout.specs.declared.Wall.{Wall}
+use Rattle.std.specs.Prelude.{Err}
+use Rattle.std.proofs.lemmas.Result.{err_from_is_err_and}
+use Rattle.answer.specs.declared.Refusal.TheVariants as refusal
+use Rattle.answer.specs.declared.Fault.{Fault}
+use Rattle.answer.specs.declared.Fault.TheVariants.{BadHeader, Unsound, UnsoundWall}
+use Rattle.answer.specs.Answers.{answer_of, checked_of, listing_of, outcome_of, refusal_of}
 use Rattle.header.specs.declared.Opened.{Opened}
-use Rattle.header.specs.declared.Opened.TheVariants as opened
-use Rattle.header.specs.Headers.{Open, opened_of}
-use Rattle.header.proofs.Opening.{is_open, not_opened}
+use Rattle.header.proofs.Opening.{unopened, same_words}
 use Rattle.whole.proofs.Checking.{check_7}
 use Rattle.busy.proofs.busy.Goals as goal
 
--- g is the header as the code opened it
-module _ (ws : List ℕ) (g : Opened) (opens : g ≡ opened_of ws) where
-  refused_7 : (floor : ℕ) (list : List ℕ) (r : Answer) → reply_of r ≡ record { number = 7; value = 0 } → g ≡ opened.Bad
-      → listing_of r ws list ≡ busy ws floor list
-  refused_7 floor list r e z =
-      said-list r 7 0 ws list e
-      ∙ busy-refused ws floor list 7 (lit< tt) (sym (ap (λ (o : Outcome). o.number) (check_7 ws (not_opened ws (sym z ∙ opens)))))
+-- o is the wall as the code opened it, and the check accepts it
+module _ (ws : List ℕ) (o : Opened) (same : o.words.now ≡ ws) (checks : record { number = 0; value = 0; words = ws } ≡ check ws) (floor : ℕ) where
+  accepts : (check o.words.now).number ≡ 0
+  accepts = ap (λ ws. (check ws).number) same ∙ sym (ap (λ (o : Outcome). o.number) checks)
 
-  header : (v : Wall) → g ≡ opened.Good v → Open ws v
-  header v z = is_open ws v (sym z ∙ opens)
+  -- and n the number of flows to list
+  module _ (list : List ℕ) (n : ℕ) (lists : n ≡ length (busy_flows (parse o.words.now) floor)) where
+    refused_14 : length list < 2 * n → record { number = 14; value = 0; words = ws; list = list } ≡ busy ws floor list
+    refused_14 h = subst (λ ws. record { number = 14; value = 0; words = ws; list = list } ≡ busy ws floor list) same (busy_short o.words.now floor list accepts (subst (λ n. length list < 2 * n) lists h))
 
--- k is what the check answered
-module _ (ws : List ℕ) (k : Answer) (checks : outcome_of k ws ≡ check ws) (floor : ℕ) (list : List ℕ) where
-  as_checked : (r : Answer) → reply_of r ≡ record { number = k.number; value = 0 } → 0 < k.number → listing_of r ws list ≡ busy ws floor list
-  as_checked r e h = said-list r k.number 0 ws list e ∙ busy-refused ws floor list k.number h (sym (ap (λ (o : Outcome). o.number) checks))
+    listed_all : (us : List ℕ) → us ≡ written (count (parse o.words.now)) (busy_flows (parse o.words.now) floor) list → 2 * n ≤ length list
+        → record { number = 0; value = n; words = ws; list = us } ≡ busy ws floor list
+    listed_all us w h =
+        subst (λ ws. record { number = 0; value = n; words = ws; list = us } ≡ busy ws floor list) same
+        (ap₂ (λ n us. record { number = 0; value = n; words = o.words.now; list = us }) lists w ∙ busy-done o.words.now floor list accepts (subst (λ n. 2 * n ≤ length list) lists h))
 
-  module _ (none : k.number ≤ 0) where
-    accepts : (check ws).number ≡ 0
-    accepts = sym (ap (λ (o : Outcome). o.number) checks) ∙ omega arith
+-- where the check finds a fault f, its number comes without the bucket
+as_checked : (ws : List ℕ) (floor : ℕ) (list : List ℕ) (f : Fault) → outcome_of (checked_of (Err f)) ws ≡ check ws → listing_of (answer_of (Err (refusal_of f))) ws list ≡ busy ws floor list
+as_checked ws floor list BadHeader e = busy-refused ws floor list 7 (lit< tt) (sym (ap (λ (o : Outcome). o.number) e))
+as_checked ws floor list (Unsound b) e = busy-refused ws floor list 9 (lit< tt) (sym (ap (λ (o : Outcome). o.number) e))
+as_checked ws floor list UnsoundWall e = busy-refused ws floor list 13 (lit< tt) (sym (ap (λ (o : Outcome). o.number) e))
 
-    -- and n the number of flows to list
-    module _ (n : ℕ) (lists : n ≡ length (busy_flows (parse ws) floor)) where
-      refused_14 : (r : Answer) → reply_of r ≡ record { number = 14; value = 0 } → length list < 2 * n → listing_of r ws list ≡ busy ws floor list
-      refused_14 r e h = said-list r 14 0 ws list e ∙ busy_short ws floor list accepts (subst (λ n. length list < 2 * n) lists h)
+pub returns-in_err-wall : goal.returns-in_err-wall
+returns-in_err-wall c =
+    let ws = c.args.words.now in
+    let p = err_from_is_err_and c.from_residual.result c.from_residual.ensures.1 in
+    let u = unopened _ c.open.result ws c.in_err-wall.field-0.0 refusal.BadHeader c.open.ensures.header c.in_err-wall.ensures.value in
+    rw (p.1, p.2, u.0) (busy-refused ws c.args.floor c.args.list.now 7 (lit< tt) (sym (ap (λ (o : Outcome). o.number) (check_7 ws u.1))))
 
-      done : (us : List ℕ) → us ≡ written (count (parse ws)) (busy_flows (parse ws) floor) list → (r : Answer) → reply_of r ≡ record { number = 0; value = n }
-          → 2 * n ≤ length list → listing_of r ws us ≡ busy ws floor list
-      done us w r e h =
-          said-list r 0 n ws us e ∙ ap₂ (λ n us. record { number = 0; value = n; words = ws; list = us }) lists w
-          ∙ busy-done ws floor list accepts (subst (λ n. 2 * n ≤ length list) lists h)
-
-twice : (n m : ℕ) → n ≡ m → 2 * n ≡ 2 * m
-twice n m e = ap (λ n. 2 * n) e
-
-pub returns-in_default : goal.returns-in_default
-returns-in_default c = search (rules, refused_7)
-
-pub returns-then-checked-gt0 : goal.returns-then-checked-gt0
-returns-then-checked-gt0 c = search (rules, as_checked)
+pub returns-in_err-check : goal.returns-in_err-check
+returns-in_err-check c =
+    let p = err_from_is_err_and c.from_residual-in_err-check.result c.from_residual-in_err-check.ensures.1 in
+    rw (p.1, p.2) (as_checked c.args.words.now c.args.floor c.args.list.now c.in_err-check.field-0.0 c.in_err-check.ensures)
 
 pub listed-k-requires : goal.listed-k-requires
-listed-k-requires c = search (rules, header, accepts)
+listed-k-requires c =
+    let o = c.in_ok-wall.wall in
+    let same = same_words _ c.open.result c.args.words.now o refusal.BadHeader c.open.ensures.words c.in_ok-wall.ensures.value in
+    accepts _ o same c.in_ok-check.ensures c.args.floor
 
 pub returns-then-list-end : goal.returns-then-list-end
-returns-then-list-end c = search (rules, refused_14)
+returns-then-list-end c =
+    let o = c.in_ok-wall.wall in
+    let same = same_words _ c.open.result c.args.words.now o refusal.BadHeader c.open.ensures.words c.in_ok-wall.ensures.value in
+    refused_14 _ o same c.in_ok-check.ensures c.args.floor c.args.list.now _ c.listed-k.ensures.0 c.if-list-end.true
 
 pub fill-requires : goal.fill-requires
-fill-requires c = search (rules, header, accepts, twice)
+fill-requires c =
+    let o = c.in_ok-wall.wall in
+    let same = same_words _ c.open.result c.args.words.now o refusal.BadHeader c.open.ensures.words c.in_ok-wall.ensures.value in
+    (accepts _ o same c.in_ok-check.ensures c.args.floor, ap (λ n. 2 * n) c.listed-k.ensures.0, c.if-list-end.false)
 
 pub returns : goal.returns
-returns c = search (rules, done)
+returns c =
+    let o = c.in_ok-wall.wall in
+    let same = same_words _ c.open.result c.args.words.now o refusal.BadHeader c.open.ensures.words c.in_ok-wall.ensures.value in
+    listed_all _ o same c.in_ok-check.ensures c.args.floor c.args.list.now _ c.listed-k.ensures.0 c.fill.new.list c.fill.ensures c.if-list-end.false
