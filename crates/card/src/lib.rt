@@ -22,40 +22,40 @@ pub extern "C" fn wall_raise(
 ) -> Answer
     ensures { outcome_of result words.new ≡ model.raise (ask shape width bits limit full spread) words.old }
 {
-    fresh::raise(words, shape, width, bits, limit, full, spread)
+    fresh::raise(words, shape, width, bits, limit, full, spread).into()
 }
 
 #[unsafe(no_mangle)]
 pub extern "C" fn wall_lookup(words: &[u64], flow: u64) -> Answer
     ensures { outcome_of result words.now ≡ model.lookup words.now flow }
 {
-    lookup::lookup(words, flow)
+    lookup::lookup(words, flow).into()
 }
 
 #[unsafe(no_mangle)]
 pub extern "C" fn wall_increment(words: &mut [u64], flow: u64) -> Answer
     ensures { outcome_of result words.new ≡ model.increment words.old flow }
 {
-    increment::increment(words, flow)
+    increment::increment(words, flow).into()
 }
 
 #[unsafe(no_mangle)]
 pub extern "C" fn wall_check(words: &[u64]) -> Answer
     ensures { outcome_of result words.now ≡ model.check words.now }
 {
-    whole::check(words)
+    whole::check(words).into()
 }
 
 #[unsafe(no_mangle)]
 pub extern "C" fn wall_busy(words: &[u64], floor: u64, list: &mut [u64]) -> Answer
     ensures { listing_of result words.now list.new ≡ busy words.now floor list.old }
 {
-    busy::busy(words, floor, list)
+    busy::busy(words, floor, list).into()
 }
 
 #[unsafe(no_mangle)]
 pub extern "C" fn wall_close(words: &mut [u64]) -> Answer
     ensures { outcome_of result words.new ≡ model.close words.old }
 {
-    fresh::close(words)
+    fresh::close(words).into()
 }
