@@ -13,7 +13,6 @@ use Rattle.model.specs.Lists.{choose}
 use Rattle.model.specs.Shapes.{known_shape, valid_width, rows_of}
 use Rattle.model.specs.Slots.{known_bits, valid_spread}
 use Rattle.model.specs.Walls.{Header, read_header, head_field, word_at, good, limit_fits, full_fits, buckets_in, bucket_length, wall_size}
-use Rattle.model.proofs.Crowding.{T_true}
 use Rattle.model.proofs.Tools.{and_tests, tests_and}
 use Rattle.model.proofs.Headers.{Limits, limits_of, good_of, of_good, eq-eqb, shape_bounds, rows_fine}
 use Rattle.model.proofs.Headers as model
@@ -137,9 +136,6 @@ known_of v s w b =
 
 pub opened_bad : (ws : List ℕ) → false ≡ good ws → None ≡ opened_of ws
 opened_bad ws e = ap (λ b. choose b (Some (fields_of ws)) None) e
-
-pub opened_good : (ws : List ℕ) → T (good ws) → Some (fields_of ws) ≡ opened_of ws
-opened_good ws t = ap (λ b. choose b (Some (fields_of ws)) None) (T_true (good ws) t)
 
 pub not_opened : (ws : List ℕ) → None ≡ opened_of ws → T (not (good ws))
 not_opened ws e = go (good ws) e

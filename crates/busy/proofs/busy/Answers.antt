@@ -1,3 +1,4 @@
+use borrow.Author.Rules.{rules}
 use mathlib.Core.Path.{◌≡◌, sym, ap, ap₂, ◌∙◌, subst}
 use mathlib.Core.List.{List}
 use Prim.Native.Nat.{ℕ, ◌*◌, ◌≤◌, ◌<◌}
@@ -53,23 +54,15 @@ returns-in_err-check c =
     let p = err_from_is_err_and c.from_residual-in_err-check.result c.from_residual-in_err-check.ensures.1 in
     rw (p.1, p.2) (as_checked c.args.words.now c.args.floor c.args.list.now c.in_err-check.field-0.0 c.in_err-check.ensures)
 
+-- No step is named: where a fault of the check is passed over, the fact that these ask for is not there.
 pub listed-k-requires : goal.listed-k-requires
-listed-k-requires c =
-    let o = c.in_ok-wall.wall in
-    let same = same_words _ c.open.result c.args.words.now o refusal.BadHeader c.open.ensures.words c.in_ok-wall.ensures.value in
-    accepts _ o same c.in_ok-check.ensures c.args.floor
+listed-k-requires c = search (rules, accepts)
 
 pub returns-then-list-end : goal.returns-then-list-end
-returns-then-list-end c =
-    let o = c.in_ok-wall.wall in
-    let same = same_words _ c.open.result c.args.words.now o refusal.BadHeader c.open.ensures.words c.in_ok-wall.ensures.value in
-    refused_14 _ o same c.in_ok-check.ensures c.args.floor c.args.list.now _ c.listed-k.ensures.0 c.if-list-end.true
+returns-then-list-end c = search (rules, refused_14)
 
 pub fill-requires : goal.fill-requires
-fill-requires c =
-    let o = c.in_ok-wall.wall in
-    let same = same_words _ c.open.result c.args.words.now o refusal.BadHeader c.open.ensures.words c.in_ok-wall.ensures.value in
-    (accepts _ o same c.in_ok-check.ensures c.args.floor, ap (λ n. 2 * n) c.listed-k.ensures.0, c.if-list-end.false)
+fill-requires c = (search (rules, accepts), search rules, search rules)
 
 pub returns : goal.returns
 returns c =
