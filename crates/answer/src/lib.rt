@@ -3,7 +3,7 @@
 ghost use Rattle.std.specs.Prelude.{◌≡◌};
 ghost use Rattle.answer.specs.Answers.{reply_of, number_of, refusal_of, answer_of, checked_of};
 
-// What a call answers: document 01's number, and the value that comes with it. C reads it as two 64-bit words.
+// What a call answers: document 01's number, and the value that comes with it. C reads it as two 64-bit words, and so it is no enum.
 #[repr(C)]
 #[derive(Clone, Copy)]
 pub struct Answer {

@@ -6,7 +6,7 @@ use growth::Upper;
 pub mod raise;
 pub mod words;
 
-// Room for 16 words of level 1, its marks, and the upper levels.
+// Room for 16 words of level 1, its marks, and the upper levels: fixed memory, whatever the shape.
 #[derive(Clone, Copy)]
 pub struct Bucket {
     pub first: [u64; 16],

@@ -7,10 +7,17 @@ mod flagged;
 
 pub use flagged::Flagged;
 
+// How many words are 0. A `for` has no way out but its end, and the compiler takes several words at a time; an iterator's `filter` it takes one by one.
 fn zero_words(words: &[u64]) -> usize
     ensures { result ≡ count_by (λ x. x == 0) words.now }
 {
-    words.iter().filter(|x| **x == 0).count()
+    let mut zeros = 0;
+    for word in words {
+        if *word == 0 {
+            zeros += 1;
+        }
+    }
+    zeros
 }
 
 impl Flagged<'_> {
@@ -53,7 +60,7 @@ impl Flagged<'_> {
         requires { place < 64 }
         ensures { result ≡ get_or (own_of self.now.site) place 0 }
     {
-        let s = self.site;
+        let s = &self.site;
         if packed::bit(s.marks(), place) == 0 {
             return cells::entry_at(s.words, s.at, place, s.shape.width);
         }
@@ -93,6 +100,7 @@ impl Flagged<'_> {
         if self.zero_places() + moved < 64 {
             return None;
         }
+        // No `for`: the marks of a word are cleared from the lowest on, and nothing is counted.
         let mut m = self.moved();
         let mut left = total - own;
         while 0 < m {

@@ -40,7 +40,8 @@ fn fields(words: &[u64]) -> Wall
     }
 }
 
-// What the rest asks of a header is shown by `open`, and by `raise` after its refusals 1, 2 and 3.
+// What the rest asks of a header is shown by `open`, and by `raise` after its refusals 1, 2 and 3. It stands in no type: `fits` and
+// `raise_sized` ask it before a header is opened, a step of one whose words it writes, and a struct around `Wall` would stand before each field.
 
 // h, the number of buckets
 pub fn buckets(v: Wall) -> u64

@@ -10,7 +10,7 @@ use answer::Refusal;
 use bucket::Bucket;
 use growth::Upper;
 
-// A wall's header.
+// A wall's header. The shape stays a number: it says how many levels there are, and L and the length of a bucket are computed with it.
 #[derive(Clone, Copy)]
 pub struct Wall {
     pub shape: u64,

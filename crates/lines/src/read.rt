@@ -41,7 +41,7 @@ impl<'a> Iterator for Lines<'a> {
     }
 }
 
-// The flow number in a line, which is 1 to 7 digits.
+// The flow number in a line, which is 1 to 7 digits. Std's parse would take a sign too.
 pub fn flow_in(line: &[u8]) -> Option<u64>
     ensures { result ≡ flow_of line.now }
 {

@@ -26,7 +26,7 @@ pub fn entry(x: u64, a: u64, w: u64) -> u64
     (x >> s) % pow2(w)
 }
 
-// Mark a of a word: 1 if it is set.
+// Mark a of a word: 1 if it is set. A number and no `bool`, for ranks and the check's tally add marks up.
 pub fn bit(x: u64, a: u64) -> u64
     requires { a < 64 }
     ensures { result ≡ bit x a }

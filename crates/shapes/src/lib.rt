@@ -10,7 +10,7 @@ mod levels;
 
 pub use levels::Levels;
 
-// Document 01's table, row by row: shapes 3, 4 and 5, levels 2 to 5.
+// Document 01's table, row by row: shapes 3, 4 and 5, levels 2 to 5. Two tables, as the document has entries and widths.
 const ENTRIES: [[u64; 4]; 3] = [[15, 3, 0, 0], [25, 10, 2, 0], [25, 10, 3, 1]];
 
 const WIDTHS: [[u64; 4]; 3] = [[4, 13, 0, 0], [2, 4, 12, 0], [2, 3, 4, 9]];

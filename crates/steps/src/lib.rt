@@ -11,6 +11,8 @@ use answer::Refusal;
 use layout::Wall;
 use shapes::Shape;
 
+// Words and header come apart here: no `Opened` can be held while its words are written.
+
 // The total and U in words 2 and 3, where J and the spread stay. A good header shows what this asks.
 pub fn put_totals(words: &mut [u64], v: Wall, total: u64, used: u64)
     requires { (4 ≤ length words.old) × (v.full ≤ 4096) × (used ≤ 4096) × (v.spread < 2 ^ 32) }

@@ -44,6 +44,7 @@ impl<'a> Page<'a> {
         requires { Fits self.old (decimal n) }
         ensures { Added self.old (decimal n) self.new }
     {
+        // The kit's digits are written into a buffer that is lent.
         let mut digits = [0u8; 20];
         let k = io::decimal(n, &mut digits);
         self.text(&digits[..k]);

@@ -33,7 +33,7 @@ fn judge_level(cells: u64, marks: u64, w: u64, n: u64) -> Option<u64>
     Some(cells - above * (p - 1))
 }
 
-// `judge` reads levels by it that no counter is in.
+// Whether words are zero, as those of levels are that no counter is in. It ends with the first that is not: most often there are two.
 fn all_zero(words: &[u64]) -> bool
     ensures { result ≡ list_all (λ x. x == 0) words.now }
 {
@@ -41,7 +41,8 @@ fn all_zero(words: &[u64]) -> bool
 }
 
 // The upper levels, whose words begin at `first`, under the marks m1 of level 1; g has their own marks.
-// Who read the wall's header knows that the shape is valid and that the words are there.
+// Who read the wall's header knows that the shape is valid and that the words are there. These stand in no type: the clause speaks of the
+// weight from which the walk begins, which `reads` and `rooms` ask of another, and holds for any marks.
 pub fn judge(words: &[u64], first: usize, m1: u64, g: u64, shape: Shape) -> Option<u64>
     requires { Ahead shape.uppers shape.entries shape.widths shape.width × (1 ≤ shape.uppers) × (shape.uppers ≤ 4) × (first + shape.uppers ≤ length words.now) }
     ensures { result ≡ judged shape.uppers words.now first g shape.entries shape.widths (ones m1) shape.width 0 }

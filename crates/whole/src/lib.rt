@@ -58,7 +58,8 @@ fn pass(wall: &Opened<'_>) -> Result<Tally, u64>
         flagged: 0,
         again: 0,
     };
-    for i in 0..header::buckets(wall.header) {
+    let n = header::buckets(wall.header);
+    for i in 0..n {
         t = weigh(wall, i, t, &mut seen).ok_or(i)?;
     }
     Ok(t)

@@ -33,8 +33,8 @@ lowest_found o n i t e l p z =
     let h = subst (λ n. i < n) (all-n o e) l in
     (not-every (buckets_in w.header) (sound_at w) i h z, lowest_is (buckets_in w.header) (sound_at w) i h p.sound z)
 
-pub buckets-i-end-requires : goal.buckets-i-end-requires
-buckets-i-end-requires c = open_known _ _ (opened c.args.wall.now)
+pub buckets-n-requires : goal.buckets-n-requires
+buckets-n-requires c = open_known _ _ (opened c.args.wall.now)
 
 pub loop-i-init : goal.loop-i-init
 loop-i-init c = (search rules, passed_none _, seen_none _)
@@ -46,9 +46,9 @@ pub returns-in_err-t : goal.returns-in_err-t
 returns-in_err-t c =
     let p = err_from_is_err_and c.from_residual.result c.from_residual.ensures.1 in
     let e = ends _ c.loop-i.i c.in_err-t.field-0.0 c.weigh.new.seen c.weigh.result c.weigh.ensures c.in_err-t.ensures.value in
-    rw (p.1, p.2, e.0) (lowest_found c.args.wall.now _ c.loop-i.i c.loop-i.t c.buckets-i-end.ensures.0 c.loop-i-test.true c.loop-i.invariant.1 e.1)
+    rw (p.1, p.2, e.0) (lowest_found c.args.wall.now _ c.loop-i.i c.loop-i.t c.buckets-n.ensures.0 c.loop-i-test.true c.loop-i.invariant.1 e.1)
 
 pub returns : goal.returns
 returns c =
-    let e : c.loop-i.i ≡ c.buckets-i-end.result = omega (arith, c.loop-i-test.false, c.loop-i.invariant.0) in
-    subst (λ n. Passed (parse c.args.wall.now.words.now) n c.loop-i.t) (e ∙ all-n c.args.wall.now c.buckets-i-end.ensures.0) c.loop-i.invariant.1
+    let e : c.loop-i.i ≡ c.buckets-n.result = omega (arith, c.loop-i-test.false, c.loop-i.invariant.0) in
+    subst (λ n. Passed (parse c.args.wall.now.words.now) n c.loop-i.t) (e ∙ all-n c.args.wall.now c.buckets-n.ensures.0) c.loop-i.invariant.1
