@@ -9,9 +9,6 @@ returns-then-packed-ne1 c = let w = c.args.wall.now in no_one w.words.now w.head
 pub returns-then-wall-packed : goal.returns-then-wall-packed
 returns-then-wall-packed c = let w = c.args.wall.now in no_number w.words.now w.header (opened w) c.args.i c.requires.0 c.args.packed c.requires.1 c.requires.2 (omega arith)
 
-pub flagged-requires : goal.flagged-requires
-flagged-requires c = (c.requires.0, omega arith)
-
 pub judge-requires : goal.judge-requires
 judge-requires c = packed_one c.args.wall.now c.args.i c.requires.0 c.args.packed c.requires.1 c.if-packed-ne1.false (omega arith) c.flagged.result c.flagged.ensures
 

@@ -3,15 +3,9 @@ use Prim.Native.Nat.{◌+◌, ◌-◌, ◌*◌, ◌/◌, ◌%◌, ◌^◌, ◌<�
 use native.Mathlib.Omega.{arith}
 use lib.Count.{ones}
 use Rattle.uppers.specs.Uppers.{judged}
-use Rattle.uppers.proofs.Uppers.{Walk, walk, here, at_last, going, stopped, ahead_words, walk_step, judge_none, judge_high, judge_crowd, judge_marks, judge_stop, same_last, within, ones_none, some}
+use Rattle.uppers.proofs.Uppers.{Walk, here, going, stopped, ahead_words, walk_step, judge_none, judge_high, judge_crowd, judge_marks, judge_stop, same_last, within, ones_none, some}
 use Rattle.uppers.proofs.judge.Goals as goal
 use Rattle.uppers.proofs.judge.Goals.{then-marks-eq0, else-marks-eq0}
-
-pub loop-at-init : goal.loop-at-init
-loop-at-init c =
-    let a = c.args in
-    let s = a.shape in
-    rw c.levels-levels.ensures (walk a.words.now a.first a.m1 a.g s.uppers s.entries s.widths s.width c.requires.1 c.requires.2 c.requires.0)
 
 pub returns-then-m-eq0 : goal.returns-then-m-eq0
 returns-then-m-eq0 c =
@@ -93,9 +87,6 @@ loop-at-preserved c =
     rw c.above-levels.ensures
     (walk_step c.loop-at.invariant c.loop-at-test.true c.count-n.result c.entries-k.result c.width-w.result c.pow2.result c.pow2-in-loop-at-2.result c.in_ok-own.own c.judge_level.result
     c.count-n.ensures.0 c.count-n.ensures.1 c.entries-k.ensures.0 c.width-w.ensures.0 (omega arith) c.pow2.ensures.0 c.pow2-in-loop-at-2.ensures.0 c.judge_level.ensures c.in_ok-own.was)
-
-pub judge_last-requires : goal.judge_last-requires
-judge_last-requires c = let l = c.loop-at in let b = at_last l.invariant in (b.0, b.1, c.count.ensures.1, b.2, l.invariant.low)
 
 pub returns : goal.returns
 returns c =

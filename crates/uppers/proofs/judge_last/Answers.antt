@@ -2,7 +2,6 @@ use mathlib.Core.Path.{◌≡◌, sym, ◌∙◌}
 use mathlib.Core.List.{[], ◌∷◌}
 use Prim.Native.Nat.{◌+◌, ◌*◌, ◌%◌, ◌^◌, ◌<◌}
 use native.Mathlib.Omega.{arith}
-use lib.Pow.{pow_pos}
 use Rattle.std.specs.Prelude.{Some}
 use Rattle.uppers.proofs.Uppers.{alone, alone-sum, judge_crowd, last-high, last_stop, last_done, weighed}
 use Rattle.uppers.proofs.judge_last.Goals as goal
@@ -16,9 +15,6 @@ pub returns-then-entries-n : goal.returns-then-entries-n
 returns-then-entries-n c =
     let a = c.args in
     judge_crowd (a.cells ∷ []) 0 a.g a.levels.entries a.levels.widths a.n a.weight a.sum 1 (omega arith) (omega arith)
-
-pub judge_level-requires : goal.judge_level-requires
-judge_level-requires c = rw c.width.ensures.0 (c.requires.0, c.requires.1, c.requires.2, pow_pos c.args.n)
 
 pub returns-in_err-own : goal.returns-in_err-own
 returns-in_err-own c =

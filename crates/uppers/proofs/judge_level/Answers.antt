@@ -2,12 +2,9 @@ use mathlib.Core.Path.{sym, ◌∙◌}
 use Prim.Native.Nat.{◌+◌, ◌/◌, ◌%◌, ◌^◌, ◌<◌}
 use native.Mathlib.Omega.{arith}
 use Rattle.model.specs.Packed.{bit}
-use Rattle.uppers.proofs.Level.{some_left, some_right, Summing, summing, level-empty, level-next, above_le, taken_le, level-high, level-done}
+use Rattle.uppers.proofs.Level.{some_left, some_right, Summing, level-empty, level-next, above_le, level-high, level-done}
 use Rattle.uppers.proofs.judge_level.Goals as goal
 use Rattle.uppers.proofs.judge_level.Goals.{else-x-p-eq0-via-then-x-p-eq0+else-bit-eq0, else-x-p-eq0-via-else-x-p-eq0}
-
-pub loop-i-init : goal.loop-i-init
-loop-i-init c = let a = c.args in summing a.w a.n a.cells a.marks
 
 pub returns-then-bit-eq0 : goal.returns-then-bit-eq0
 returns-then-bit-eq0 c = level-empty c.loop-i.invariant c.loop-i-test.true (rw c.pow2-p.ensures.0 at c.if-x-p-eq0.true) (sym c.bit.ensures ∙ c.if-bit-eq0.true)
@@ -33,15 +30,6 @@ loop-i-preserved c = more c
 
 pub returns-then-x-gt0 : goal.returns-then-x-gt0
 returns-then-x-gt0 c = level-high c.loop-i.invariant (omega (arith, c.loop-i.invariant.within, c.loop-i-test.false)) c.if-x-gt0.true
-
-pub overflow_sub-result : goal.overflow_sub-result
-overflow_sub-result c = c.pow2-p.ensures.1
-
-pub overflow_mul-result : goal.overflow_mul-result
-overflow_mul-result c = omega (arith, taken_le c.loop-i.invariant c.pow2-p.result c.pow2-p.ensures.0, c.ranges.cells)
-
-pub overflow_sub-result-2 : goal.overflow_sub-result-2
-overflow_sub-result-2 c = taken_le c.loop-i.invariant c.pow2-p.result c.pow2-p.ensures.0
 
 pub returns : goal.returns
 returns c = level-done c.loop-i.invariant c.pow2-p.result c.pow2-p.ensures.0 (omega (arith, c.loop-i.invariant.within, c.loop-i-test.false)) (omega arith) c.requires.3

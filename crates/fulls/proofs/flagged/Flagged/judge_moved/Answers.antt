@@ -14,7 +14,7 @@ use Rattle.fulls.specs.Fulls.{full_of}
 use Rattle.fulls.proofs.Places.{no_flag, flags}
 use Rattle.fulls.proofs.Gains.{bad_gain, few_zeros}
 use Rattle.fulls.proofs.Marks.{Lowest, lowest, no_more, here, enough}
-use Rattle.fulls.proofs.Walk.{Going, said, at-start, over, one_behind, at-end}
+use Rattle.fulls.proofs.Walk.{Going, said, over, one_behind, at-end}
 use Rattle.fulls.proofs.flagged.Flagged.judge_moved.Goals as goal
 
 -- the place of a turn
@@ -35,11 +35,6 @@ returns-then-zero_places-moved-lt64 c =
     let l : c.zero_places.result + c.count-moved.result < 64 = omega arith in
     few_zeros (own_of b.site) (full_of b) _ (long b) (subst (λ (z : ℕ). z + rank (full_of b).moved 64 < 64) c.zero_places.ensures.0 (subst (λ (r : ℕ). c.zero_places.result + r < 64) (rw c.moved.ensures at c.count-moved.ensures.0 ∙ flags b.site.words.now b.full (b.site.fit b.full)) l))
 
-pub loop-m-init : goal.loop-m-init
-loop-m-init c =
-    let b = c.args.self.now in
-    rw c.moved-m.ensures (at-start (own_of b.site) b.site.words.now b.full c.args.total (long b) c.args.own c.requires.0 c.requires.1)
-
 pub gain-requires : goal.gain-requires
 gain-requires c =
     let b = c.args.self.now in
@@ -51,20 +46,11 @@ returns-in_err-more c =
     let b = c.args.self.now in
     c.from_residual.ensures ∙ bad_gain (own_of b.site) (full_of b) _ (long b) c.from-place.result (low (own_of b.site) b.site.words.now b.full c.args.total c.loop-m.m c.loop-m.left c.from-place.result c.loop-m.invariant c.loop-m-test.true (b.site.fit b.full) c.from-place.ensures).within (sym c.gain.ensures ∙ c.in_err-more.was)
 
-pub pow2-m-requires : goal.pow2-m-requires
-pow2-m-requires c =
-    let b = c.args.self.now in
-    (low (own_of b.site) b.site.words.now b.full c.args.total c.loop-m.m c.loop-m.left c.from-place.result c.loop-m.invariant c.loop-m-test.true (b.site.fit b.full) c.from-place.ensures).within
-
 pub overflow_sub-m : goal.overflow_sub-m
 overflow_sub-m c =
     let l = c.loop-m in
     let b = c.args.self.now in
     subst (λ (p : ℕ). p ≤ l.m) (sym c.pow2-m.ensures.0) (enough (get_or b.site.words.now b.full 0) l.invariant.past l.m l.invariant.marks 64 c.from-place.result (low (own_of b.site) b.site.words.now b.full c.args.total c.loop-m.m c.loop-m.left c.from-place.result c.loop-m.invariant c.loop-m-test.true (b.site.fit b.full) c.from-place.ensures))
-
-pub loop-m-smaller : goal.loop-m-smaller
-loop-m-smaller c =
-    omega (arith, c.pow2-m.ensures.1, c.loop-m-test.true)
 
 pub loop-m-preserved : goal.loop-m-preserved
 loop-m-preserved c =

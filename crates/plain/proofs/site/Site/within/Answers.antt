@@ -1,23 +1,12 @@
-use mathlib.Core.Path.{sym, ap}
+use mathlib.Core.Path.{sym}
 use Prim.Native.Nat.{◌+◌, ◌^◌, ◌≤◌}
 use native.Mathlib.Omega.{arith}
-use lib.Dec.{leb}
 use lib.ListN.{drop}
 use lib.Pow.{pow_mono}
 use borrow.Author.Tests.{le-leb}
 use Rattle.sums.specs.Sums.{first_sum}
 use Rattle.plain.proofs.Soundness.{first_most}
 use Rattle.plain.proofs.site.Site.within.Goals as goal
-
-pub overflow_mul-pow2 : goal.overflow_mul-pow2
-overflow_mul-pow2 c =
-    let p : 2 ^ c.args.self.now.shape.width ≤ 2 ^ 16 = pow_mono c.args.self.now.narrow in
-    omega (arith, c.pow2.ensures.0)
-
-pub overflow_add-upper : goal.overflow_add-upper
-overflow_add-upper c =
-    let p : 2 ^ c.args.self.now.shape.width ≤ 2 ^ 16 = pow_mono c.args.self.now.narrow in
-    omega (arith, c.pow2.ensures.0, c.requires)
 
 pub returns-then-upper-pow2 : goal.returns-then-upper-pow2
 returns-then-upper-pow2 c =
@@ -30,6 +19,3 @@ overflow_add-result c =
     let s = c.args.self.now in
     let p : 2 ^ s.shape.width ≤ 2 ^ 16 = pow_mono s.narrow in
     omega (arith, first_most s.shape.width (drop s.at s.words.now), c.sum_first.ensures, c.requires)
-
-pub returns : goal.returns
-returns c = ap (λ k. leb (c.args.upper + k) c.args.total) c.sum_first.ensures
