@@ -4,20 +4,18 @@ ghost use Rattle.std.specs.Prelude.{◌≡◌, ◌+◌, ◌*◌, ◌≤◌, ◌<
 ghost use Rattle.answer.specs.Answers.{listing_of, answer_of};
 ghost use Rattle.model.specs.Walls.{parse};
 ghost use Rattle.model.specs.Sound.{count};
-ghost use Rattle.model.specs.Calls as model;
 ghost use Rattle.model.specs.BusyLists.{busy_flows, written, busy};
 
 use answer::Refusal;
-use header::Opened;
+use counts::Checked;
 
-// How many flows count at least the floor. That does not depend on their order, so they are counted by slot. `busy` has checked the wall.
-fn listed(wall: &Opened<'_>, floor: u64) -> u64
-    requires { (model.check wall.now.words.now).number ≡ 0 }
-    ensures { (result ≡ length (busy_flows (parse wall.now.words.now) floor)) × (result ≤ 4194304) }
+// How many flows count at least the floor. That does not depend on their order, so they are counted by slot.
+fn listed(checked: &Checked<'_>, floor: u64) -> u64
+    ensures { (result ≡ length (busy_flows (parse checked.now.wall.words.now) floor)) × (result ≤ 4194304) }
 {
     let mut k: u64 = 0;
-    for slot in 0..packed::pow2(wall.header.bits) {
-        if floor <= found::count(wall, slot / 64, slot % 64) {
+    for slot in 0..packed::pow2(checked.wall.header.bits) {
+        if floor <= found::count(&checked.wall, slot / 64, slot % 64) {
             k += 1;
         }
     }
@@ -37,17 +35,16 @@ fn put(list: &mut [u64], at: usize, floor: u64, flow: u64, count: u64) -> usize
     at + 2
 }
 
-// The entries of the flows that count at least the floor, which take the words before `end`: it stops with the last of them. `busy` has checked the wall
-// and the room.
-fn fill(wall: &Opened<'_>, floor: u64, end: usize, list: &mut [u64])
-    requires { ((model.check wall.now.words.now).number ≡ 0) × (end ≡ 2 * length (busy_flows (parse wall.now.words.now) floor)) × (end ≤ length list.old) }
-    ensures { list.new ≡ written (count (parse wall.now.words.now)) (busy_flows (parse wall.now.words.now) floor) list.old }
+// The entries of the flows that count at least the floor, which take the words before `end`: it stops with the last of them. `busy` has found the room.
+fn fill(checked: &Checked<'_>, floor: u64, end: usize, list: &mut [u64])
+    requires { (end ≡ 2 * length (busy_flows (parse checked.now.wall.words.now) floor)) × (end ≤ length list.old) }
+    ensures { list.new ≡ written (count (parse checked.now.wall.words.now)) (busy_flows (parse checked.now.wall.words.now) floor) list.old }
 {
     let mut at: usize = 0;
     let mut flow: u64 = 0;
     // No `for`: the last entry ends it, and not the last flow.
     while at < end {
-        let count = counts::count_of(wall, flow);
+        let count = counts::count_of(checked, flow);
         at = put(list, at, floor, flow, count);
         flow += 1;
     }
@@ -59,11 +56,12 @@ pub fn busy(words: &[u64], floor: u64, list: &mut [u64]) -> Result<u64, Refusal>
 {
     let wall = header::open(words).ok_or(Refusal::BadHeader)?;
     whole::check(words)?;
-    let k = listed(&wall, floor);
+    let checked = Checked { wall };
+    let k = listed(&checked, floor);
     let end = 2 * k;
     if (list.len() as u64) < end {
         return Err(Refusal::ListShort);
     }
-    fill(&wall, floor, end as usize, list);
+    fill(&checked, floor, end as usize, list);
     Ok(k)
 }

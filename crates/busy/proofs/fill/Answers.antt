@@ -34,7 +34,7 @@ module _ (ws : List ℕ) (floor y at end : ℕ) (low : y ≤ flows (parse ws).he
 
 pub loop-at-init : goal.loop-at-init
 loop-at-init c =
-    let o = opened c.args.wall.now in
+    let o = opened c.args.checked.now.wall in
     (zero-le, refl, refl, refl, le_trans (le_of_eq (flows_of _ _ o)) (pow_mono (open_known _ _ o).bits_high))
 
 pub count_of-count-requires : goal.count_of-count-requires
@@ -46,27 +46,27 @@ put-at-requires c = search (rules, at-few, has_room)
 pub overflow_add-flow : goal.overflow_add-flow
 overflow_add-flow c =
     let i = c.loop-at.invariant in
-    record { fits = omega (arith, next c.args.wall.now.words.now _ _ _ _ i.0 i.1 c.requires.1 c.loop-at-test.true, i.4) }
+    record { fits = omega (arith, next c.args.checked.now.wall.words.now _ _ _ _ i.0 i.1 c.requires.0 c.loop-at-test.true, i.4) }
 
 pub loop-at-smaller : goal.loop-at-smaller
 loop-at-smaller c =
     let i = c.loop-at.invariant in
-    omega (arith, next c.args.wall.now.words.now _ _ _ _ i.0 i.1 c.requires.1 c.loop-at-test.true)
+    omega (arith, next c.args.checked.now.wall.words.now _ _ _ _ i.0 i.1 c.requires.0 c.loop-at-test.true)
 
 pub loop-at-preserved : goal.loop-at-preserved
 loop-at-preserved c =
-    let ws = c.args.wall.now.words.now in
+    let ws = c.args.checked.now.wall.words.now in
     let f = count (parse ws) in
     let l = c.loop-at in
     let i = l.invariant in
     let p = c.put-at in
-    let h = next ws c.args.floor l.flow l.at c.args.end i.0 i.1 c.requires.1 c.loop-at-test.true in
+    let h = next ws c.args.floor l.flow l.at c.args.end i.0 i.1 c.requires.0 c.loop-at-test.true in
     let q = c.count_of-count.ensures in
     let low = subst (λ n. n < c.args.floor → (p.result ≡ l.at) × (p.new.list ≡ l.list)) q p.ensures.0 in
     let high = subst (λ n. c.args.floor ≤ n → (p.result ≡ l.at + 2) × (p.new.list ≡ set (set l.list l.at l.flow) (l.at + 1) n)) q p.ensures.1 in (
       omega (arith, h),
       next-at f _ _ _ _ c.args.list.now _ _ i.1 i.2 low high,
-      next-written f _ _ _ _ c.args.list.now _ _ i.1 i.2 low high (flows (parse ws).header) h (omega (arith, c.requires.1, c.requires.2)),
+      next-written f _ _ _ _ c.args.list.now _ _ i.1 i.2 low high (flows (parse ws).header) h (omega (arith, c.requires.0, c.requires.1)),
       next-long f _ _ _ _ c.args.list.now _ _ i.1 i.2 low high ∙ i.3,
       i.4,
     )
@@ -74,4 +74,4 @@ loop-at-preserved c =
 pub returns : goal.returns
 returns c =
     let i = c.loop-at.invariant in
-    i.2 ∙ ap (λ ys. written (count (parse c.args.wall.now.words.now)) ys c.args.list.now) (last c.args.wall.now.words.now _ _ _ _ i.0 i.1 c.requires.1 c.loop-at-test.false)
+    i.2 ∙ ap (λ ys. written (count (parse c.args.checked.now.wall.words.now)) ys c.args.list.now) (last c.args.checked.now.wall.words.now _ _ _ _ i.0 i.1 c.requires.0 c.loop-at-test.false)
