@@ -22,17 +22,25 @@ fn listed(checked: &Checked<'_>, floor: u64) -> u64
     k
 }
 
-// A flow and its count from `at` on, if the count is at least the floor; where the next entry begins. `fill` shows that there is room.
-fn put(list: &mut [u64], at: usize, floor: u64, flow: u64, count: u64) -> usize
-    requires { (at ≤ 8388608) × (floor ≤ count → at + 2 ≤ length list.old) }
-    ensures { (count < floor → (result ≡ at) × (list.new ≡ list.old)) × (floor ≤ count → (result ≡ at + 2) × (list.new ≡ set (set list.old at flow) (at + 1) count)) }
-{
-    if count < floor {
-        return at;
+// A list, and how many words at its front are written.
+#[derive(Drop)]
+struct Entries<'a> {
+    list: &'a mut [u64],
+    len: usize,
+}
+
+impl<'a> Entries<'a> {
+    // A flow and its count. `fill` shows that there is room.
+    fn put(&mut self, flow: u64, count: u64)
+        requires { self.old.len + 2 ≤ length self.old.list.now }
+        ensures same { self.new.list.ghost_name ≡ self.old.list.ghost_name }
+        ensures list { self.new.list.now ≡ set (set self.old.list.now self.old.len flow) (self.old.len + 1) count }
+        ensures len { self.new.len ≡ self.old.len + 2 }
+    {
+        self.list[self.len] = flow;
+        self.list[self.len + 1] = count;
+        self.len += 2;
     }
-    list[at] = flow;
-    list[at + 1] = count;
-    at + 2
 }
 
 // The entries of the flows that count at least the floor, which take the words before `end`: it stops with the last of them. `busy` has found the room.
@@ -40,12 +48,14 @@ fn fill(checked: &Checked<'_>, floor: u64, end: usize, list: &mut [u64])
     requires { (end ≡ 2 * length (busy_flows (parse checked.now.wall.words.now) floor)) × (end ≤ length list.old) }
     ensures { list.new ≡ written (count (parse checked.now.wall.words.now)) (busy_flows (parse checked.now.wall.words.now) floor) list.old }
 {
-    let mut at: usize = 0;
+    let mut entries = Entries { list, len: 0 };
     let mut flow: u64 = 0;
     // No `for`: the last entry ends it, and not the last flow.
-    while at < end {
+    while entries.len < end {
         let count = counts::count_of(checked, flow);
-        at = put(list, at, floor, flow, count);
+        if floor <= count {
+            entries.put(flow, count);
+        }
         flow += 1;
     }
 }
