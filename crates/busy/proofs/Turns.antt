@@ -3,7 +3,7 @@ use mathlib.Core.Path.{◌≡◌, refl, sym, ap, ap₂, ◌∙◌, subst}
 use mathlib.Core.Bool.{Bool, true, false}
 use mathlib.Core.List.{List, [], ◌∷◌, ◌++◌, append-nil}
 use Prim.Native.Nat.{ℕ, zero, suc, ◌+◌, ◌*◌, ◌-◌, ◌/◌, ◌%◌, ◌≤◌, ◌<◌}
-use native.Mathlib.Nat.{zero-add, add-zero, suc-add, add-suc, le_refl}
+use native.Mathlib.Nat.{zero-add, add-zero, suc-add, add-suc}
 use native.Mathlib.Decide.{dec_lt}
 use native.Mathlib.Omega.{arith}
 use lib.Dec.{leb, le→leb}
@@ -56,17 +56,13 @@ module _ (c : ℕ → ℕ) (floor : ℕ) where
       go (yes h) = a h
       go (no h) = b (omega arith)
 
-  -- no flow takes more than one entry, and none takes one away
-  grows : (y : ℕ) → (length (busy_to y) ≤ length (busy_to (y + 1))) × (length (busy_to (y + 1)) ≤ length (busy_to y) + 1)
-  grows y = by_count y (λ h. (omega (arith, as_long y h), omega (arith, as_long y h))) (λ h. (omega (arith, longer y h), omega (arith, longer y h)))
-
-  pub at_most : (n : ℕ) → length (busy_to n) ≤ n
-  at_most zero = le_refl 0
-  at_most (suc n) = let e : suc n ≡ n + 1 = omega arith in subst (λ m. length (busy_to m) ≤ m) (sym e) (omega (arith, at_most n, (grows n).1))
+  -- no flow takes an entry away
+  grows : (y : ℕ) → length (busy_to y) ≤ length (busy_to (y + 1))
+  grows y = by_count y (λ h. omega (arith, as_long y h)) (λ h. omega (arith, longer y h))
 
   never_shorter : (y d : ℕ) → length (busy_to y) ≤ length (busy_to (y + d))
   never_shorter y zero = omega (arith, ap (λ n. length (busy_to n)) (add-zero y))
-  never_shorter y (suc d) = let e : y + suc d ≡ y + d + 1 = omega arith in subst (λ m. length (busy_to y) ≤ length (busy_to m)) (sym e) (omega (arith, never_shorter y d, (grows (y + d)).0))
+  never_shorter y (suc d) = let e : y + suc d ≡ y + d + 1 = omega arith in subst (λ m. length (busy_to y) ≤ length (busy_to m)) (sym e) (omega (arith, never_shorter y d, grows (y + d)))
 
   -- while fewer are listed than of all n flows, there is a next flow; it has room where all have
   pub next-flow : (y n : ℕ) → y ≤ n → length (busy_to y) < length (busy_to n) → y < n
@@ -82,7 +78,7 @@ module _ (c : ℕ → ℕ) (floor : ℕ) where
   none_after y zero h = ap busy_to (sym (add-zero y))
   none_after y (suc d) h =
       let e : y + d + 1 ≡ y + suc d = omega arith in
-      let r = none_after y d (omega (arith, h, (grows (y + d)).0, ap (λ m. length (busy_to m)) e)) in
+      let r = none_after y d (omega (arith, h, grows (y + d), ap (λ m. length (busy_to m)) e)) in
       by_count (y + d) (λ k. r ∙ sym (without (y + d) k) ∙ ap busy_to e) (λ k. absurd (omega (arith, h, longer (y + d) k, never_shorter y d, ap (λ m. length (busy_to m)) e)))
 
   pub all_listed : (y n : ℕ) → y ≤ n → length (busy_to n) ≤ length (busy_to y) → busy_to y ≡ busy_to n
@@ -116,18 +112,34 @@ module _ (c : ℕ → ℕ) where
           ∙ ap (λ i. set (x ∷ c x ∷ (set (entries c ys ++ drop j list) j y)) i (c y)) (suc-add (suc j) 1 ∙ ap suc (suc-add j 1))
           ∙ ap (λ (l : List ℕ). x ∷ c x ∷ l) e ∙ ap (λ i. x ∷ c x ∷ (entries c (ys ++ y ∷ []) ++ drop i (a ∷ (b ∷ list)))) (sym q)
 
--- ---- a turn of the second pass: what it finds, and what `put` leaves
+-- ---- a turn of the second pass
 
-module _ (c : ℕ → ℕ) (floor y at r : ℕ) (list us xs : List ℕ) (e : at ≡ 2 * length (busy_to c floor y)) (w : us ≡ written c (busy_to c floor y) list)
-    (f : c y < floor → (r ≡ at) × (xs ≡ us)) (g : floor ≤ c y → (r ≡ at + 2) × (xs ≡ set (set us at y) (at + 1) (c y))) where
-  pub next-at : r ≡ 2 * length (busy_to c floor (y + 1))
-  next-at = by_count c floor y (λ h. omega (arith, e, (f h).0, as_long c floor y h)) (λ h. omega (arith, e, (g h).0, longer c floor y h))
+-- what it has written of the flows before y
+pub record Upto (c : ℕ → ℕ) (floor : ℕ) (list : List ℕ) (y at : ℕ) (us : List ℕ) : Type 0 where
+  pub ends : at ≡ 2 * length (busy_to c floor y)
+  pub words : us ≡ written c (busy_to c floor y) list
+  pub long : length us ≡ length list
 
-  pub next-long : length xs ≡ length us
-  next-long = by_count c floor y (λ h. ap length (f h).1) (λ h. ap length (g h).1 ∙ length-set (set us at y) (at + 1) (c y) ∙ length-set us at y)
+pub none_yet : (c : ℕ → ℕ) (floor : ℕ) (list : List ℕ) → Upto c floor list 0 0 list
+none_yet c floor list = record { ends = refl; words = refl; long = refl }
 
-  pub next-written : (n : ℕ) → y < n → 2 * length (busy_to c floor n) ≤ length list → xs ≡ written c (busy_to c floor (y + 1)) list
-  next-written n l m = by_count c floor y
-      (λ h. (f h).1 ∙ w ∙ ap (λ zs. written c zs list) (sym (without c floor y h)))
-      (λ h. (g h).1 ∙ ap₂ (λ (zs : List ℕ) j. set (set zs j y) (j + 1) (c y)) w e
-      ∙ written_more c (busy_to c floor y) list y (room c floor y n list l m h) ∙ ap (λ zs. written c zs list) (sym (with_flow c floor y h)))
+module _ {c : ℕ → ℕ} {floor y at : ℕ} {list us : List ℕ} (u : Upto c floor list y at us) where
+  pub passed-over : c y < floor → Upto c floor list (y + 1) at us
+  passed-over h = record {
+    ends = omega (arith, u.ends, as_long c floor y h);
+    words = u.words ∙ ap (λ zs. written c zs list) (sym (without c floor y h));
+    long = u.long;
+  }
+
+  -- m is the count of flow y
+  pub entered : {m : ℕ} → m ≡ c y → (n : ℕ) → y < n → 2 * length (busy_to c floor n) ≤ length list → floor ≤ m
+      → Upto c floor list (y + 1) (at + 2) (set (set us at y) (at + 1) m)
+  entered {m} e n l fits h =
+      let k : floor ≤ c y = omega (arith, e, h) in
+      record {
+        ends = omega (arith, u.ends, longer c floor y k);
+        words =
+            ap (λ m. set (set us at y) (at + 1) m) e ∙ ap₂ (λ (zs : List ℕ) j. set (set zs j y) (j + 1) (c y)) u.words u.ends
+            ∙ written_more c (busy_to c floor y) list y (room c floor y n list l fits k) ∙ ap (λ zs. written c zs list) (sym (with_flow c floor y k));
+        long = length-set (set us at y) (at + 1) m ∙ length-set us at y ∙ u.long;
+      }

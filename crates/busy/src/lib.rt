@@ -4,51 +4,58 @@ ghost use Rattle.std.specs.Prelude.{◌≡◌, ◌+◌, ◌*◌, ◌≤◌, ◌<
 ghost use Rattle.answer.specs.Answers.{listing_of, answer_of};
 ghost use Rattle.model.specs.Walls.{parse};
 ghost use Rattle.model.specs.Sound.{count};
-ghost use Rattle.model.specs.Calls as model;
 ghost use Rattle.model.specs.BusyLists.{busy_flows, written, busy};
 
 use answer::Refusal;
-use header::Opened;
+use counts::Checked;
 
-// How many flows count at least the floor. That does not depend on their order, so they are counted by slot. `busy` has checked the wall.
-fn listed(wall: &Opened<'_>, floor: u64) -> u64
-    requires { (model.check wall.now.words.now).number ≡ 0 }
-    ensures { (result ≡ length (busy_flows (parse wall.now.words.now) floor)) × (result ≤ 4194304) }
+// How many flows count at least the floor. That does not depend on their order, so they are counted by slot.
+fn listed(checked: &Checked<'_>, floor: u64) -> u64
+    ensures { (result ≡ length (busy_flows (parse checked.now.wall.words.now) floor)) × (result ≤ 4194304) }
 {
     let mut k: u64 = 0;
-    for slot in 0..packed::pow2(wall.header.bits) {
-        if floor <= found::count(wall, slot / 64, slot % 64) {
+    for slot in 0..packed::pow2(checked.wall.header.bits) {
+        if floor <= found::count(&checked.wall, slot / 64, slot % 64) {
             k += 1;
         }
     }
     k
 }
 
-// A flow and its count from `at` on, if the count is at least the floor; where the next entry begins. `fill` shows that there is room.
-fn put(list: &mut [u64], at: usize, floor: u64, flow: u64, count: u64) -> usize
-    requires { (at ≤ 8388608) × (floor ≤ count → at + 2 ≤ length list.old) }
-    ensures { (count < floor → (result ≡ at) × (list.new ≡ list.old)) × (floor ≤ count → (result ≡ at + 2) × (list.new ≡ set (set list.old at flow) (at + 1) count)) }
-{
-    if count < floor {
-        return at;
-    }
-    list[at] = flow;
-    list[at + 1] = count;
-    at + 2
+// A list, and how many words at its front are written.
+#[derive(Drop)]
+struct Entries<'a> {
+    list: &'a mut [u64],
+    len: usize,
 }
 
-// The entries of the flows that count at least the floor, which take the words before `end`: it stops with the last of them. `busy` has checked the wall
-// and the room.
-fn fill(wall: &Opened<'_>, floor: u64, end: usize, list: &mut [u64])
-    requires { ((model.check wall.now.words.now).number ≡ 0) × (end ≡ 2 * length (busy_flows (parse wall.now.words.now) floor)) × (end ≤ length list.old) }
-    ensures { list.new ≡ written (count (parse wall.now.words.now)) (busy_flows (parse wall.now.words.now) floor) list.old }
+impl<'a> Entries<'a> {
+    // A flow and its count. `fill` shows that there is room.
+    fn put(&mut self, flow: u64, count: u64)
+        requires { self.old.len + 2 ≤ length self.old.list.now }
+        ensures same { self.new.list.ghost_name ≡ self.old.list.ghost_name }
+        ensures list { self.new.list.now ≡ set (set self.old.list.now self.old.len flow) (self.old.len + 1) count }
+        ensures len { self.new.len ≡ self.old.len + 2 }
+    {
+        self.list[self.len] = flow;
+        self.list[self.len + 1] = count;
+        self.len += 2;
+    }
+}
+
+// The entries of the flows that count at least the floor, which take the words before `end`: it stops with the last of them. `busy` has found the room.
+fn fill(checked: &Checked<'_>, floor: u64, end: usize, list: &mut [u64])
+    requires { (end ≡ 2 * length (busy_flows (parse checked.now.wall.words.now) floor)) × (end ≤ length list.old) }
+    ensures { list.new ≡ written (count (parse checked.now.wall.words.now)) (busy_flows (parse checked.now.wall.words.now) floor) list.old }
 {
-    let mut at: usize = 0;
+    let mut entries = Entries { list, len: 0 };
     let mut flow: u64 = 0;
     // No `for`: the last entry ends it, and not the last flow.
-    while at < end {
-        let count = counts::count_of(wall, flow);
-        at = put(list, at, floor, flow, count);
+    while entries.len < end {
+        let count = counts::count_of(checked, flow);
+        if floor <= count {
+            entries.put(flow, count);
+        }
         flow += 1;
     }
 }
@@ -59,11 +66,12 @@ pub fn busy(words: &[u64], floor: u64, list: &mut [u64]) -> Result<u64, Refusal>
 {
     let wall = header::open(words).ok_or(Refusal::BadHeader)?;
     whole::check(words)?;
-    let k = listed(&wall, floor);
+    let checked = Checked { wall };
+    let k = listed(&checked, floor);
     let end = 2 * k;
     if (list.len() as u64) < end {
         return Err(Refusal::ListShort);
     }
-    fill(&wall, floor, end as usize, list);
+    fill(&checked, floor, end as usize, list);
     Ok(k)
 }

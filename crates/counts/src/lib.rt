@@ -7,12 +7,19 @@ ghost use Rattle.model.specs.Calls as model;
 
 use header::Opened;
 
-// The count of a flow of a wall that the check accepts, read where it lies: nothing is judged again. Its callers have made the check, and know the flow.
-pub fn count_of(wall: &Opened<'_>, flow: u64) -> u64
-    requires { ((model.check wall.now.words.now).number ≡ 0) × (flow < flows (parse wall.now.words.now).header) }
-    ensures { result ≡ count (parse wall.now.words.now) flow }
+// An opened wall that the check accepts.
+#[derive(Clone, Copy)]
+pub struct Checked<'a> {
+    pub wall: Opened<'a>,
+    pub ghost sound: { (model.check wall.words.now).number ≡ 0 },
+}
+
+// The count of a flow of the wall, read where it lies: nothing is judged again. Its callers know the flow.
+pub fn count_of(checked: &Checked<'_>, flow: u64) -> u64
+    requires { flow < flows (parse checked.now.wall.words.now).header }
+    ensures { result ≡ count (parse checked.now.wall.words.now) flow }
 {
-    let v = wall.header;
+    let v = checked.wall.header;
     let s = spreads::slot_of(v.bits, v.spread, flow);
-    found::count(wall, s / 64, s % 64)
+    found::count(&checked.wall, s / 64, s % 64)
 }

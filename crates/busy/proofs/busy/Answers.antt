@@ -54,15 +54,8 @@ returns-in_err-check c =
     let p = err_from_is_err_and c.from_residual-in_err-check.result c.from_residual-in_err-check.ensures.1 in
     rw (p.1, p.2) (as_checked c.args.words.now c.args.floor c.args.list.now c.in_err-check.field-0.0 c.in_err-check.ensures)
 
--- No step is named: where a fault of the check is passed over, the fact that these ask for is not there.
-pub listed-k-requires : goal.listed-k-requires
-listed-k-requires c = search (rules, accepts)
-
 pub returns-then-list-end : goal.returns-then-list-end
 returns-then-list-end c = search (rules, refused_14)
-
-pub fill-requires : goal.fill-requires
-fill-requires c = (search (rules, accepts), search rules, search rules)
 
 pub returns : goal.returns
 returns c =

@@ -25,30 +25,30 @@ use Rattle.busy.proofs.listed.Goals as goal
 use Rattle.busy.proofs.listed.Goals.{then-floor-count, else-floor-count}
 
 pub pow2-slot-end-requires : goal.pow2-slot-end-requires
-pow2-slot-end-requires c = omega (arith, (open_known _ _ (opened c.args.wall.now)).bits_high)
+pow2-slot-end-requires c = omega (arith, (open_known _ _ (opened c.args.checked.now.wall)).bits_high)
 
 pub loop-slot-init : goal.loop-slot-init
 loop-slot-init c = (search rules, refl, search rules)
 
 pub count-requires : goal.count-requires
 count-requires c =
-    let w = c.args.wall.now in
+    let w = c.args.checked.now.wall in
     let o = opened w in
     let s = c.loop-slot.slot in
     let h : s / 64 < buckets_in (header_of w.header) = slot-bucket w.header.bits s (open_known _ _ o).bits_low (omega (arith, c.loop-slot-test.true, c.pow2-slot-end.ensures.0)) in
-    (h, each_sound w.words.now c.requires (s / 64) (subst (λ z. s / 64 < buckets_in z) (open_header _ _ o) h), mod-lt s (lit< tt))
+    (h, each_sound w.words.now c.args.checked.now.sound (s / 64) (subst (λ z. s / 64 < buckets_in z) (open_header _ _ o) h), mod-lt s (lit< tt))
 
 -- there are at most 4,194,304 flows
 few : (o : Opened) (n : ℕ) → n ≡ 2 ^ o.header.bits → n ≤ 4194304
 few o n e = le_trans (le_of_eq e) (pow_mono (open_known _ _ (opened o)).bits_high)
 
 pub overflow_add-k : goal.overflow_add-k
-overflow_add-k c = record { fits = omega (arith, c.loop-slot.invariant.2, c.loop-slot-test.true, few c.args.wall.now _ c.pow2-slot-end.ensures.0) }
+overflow_add-k c = record { fits = omega (arith, c.loop-slot.invariant.2, c.loop-slot-test.true, few c.args.checked.now.wall _ c.pow2-slot-end.ensures.0) }
 
 pub loop-slot-preserved : goal.loop-slot-preserved
 loop-slot-preserved c =
     let l = c.loop-slot in
-    let ws = c.args.wall.now.words.now in
+    let ws = c.args.checked.now.wall.words.now in
     let floor = c.args.floor in
     let q = c.count.ensures in
     let n = get_or (counts_at (parse ws) (l.slot / 64)) (l.slot % 64) 0 in
@@ -61,7 +61,7 @@ loop-slot-preserved c =
 
 pub returns : goal.returns
 returns c =
-    let w = c.args.wall.now in
+    let w = c.args.checked.now.wall in
     let o = opened w in
     let l = c.loop-slot in
     let ws = w.words.now in

@@ -5,4 +5,4 @@ use Rattle.busy.proofs.Turns.{reaches}
 use Rattle.busy.proofs.listed.Given as goal
 
 abbrev pub invariant-loop-slot : goal.invariant-loop-slot
-invariant-loop-slot l = (l.slot ≤ l.slot-end) × (l.k ≡ sum (tabulate l.slot (reaches l.wall.words.now l.floor))) × (l.k ≤ l.slot)
+invariant-loop-slot l = (l.slot ≤ l.slot-end) × (l.k ≡ sum (tabulate l.slot (reaches l.checked.wall.words.now l.floor))) × (l.k ≤ l.slot)
