@@ -40,3 +40,10 @@ part_stored z ws at a v q k p fits four fits-p long four-p e put eq asked =
     ap (λ b. splice ws at (bucket_words b))
     (held_stay z k four a v r p f below long four-p put.marks put.upper y
     ∙ ap (λ (b : model.Bucket). holding w (rows_in z) (set (own_counts w (rows_in z) b) a v)) e)
+
+-- a shape of width 7 with its width written out
+pub seven : (s : Shape) → s.width ≡ 7 → record { uppers = s.uppers; width = 7; entries = s.entries; widths = s.widths } ≡ s
+seven s e = ap (λ w. record { uppers = s.uppers; width = w; entries = s.entries; widths = s.widths }) (sym e)
+
+pub asked_seven : (s : Shape) (e : s.width ≡ 7) (ws : List ℕ) (at a v : ℕ) → Asked s ws at a v → Asked (record { uppers = s.uppers; width = 7; entries = s.entries; widths = s.widths }) ws at a v
+asked_seven s e ws at a v p = subst (λ (x : Shape). Asked x ws at a v) (sym (seven s e)) p
