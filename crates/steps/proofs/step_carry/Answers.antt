@@ -1,20 +1,12 @@
-use Rattle.steps.proofs.Writing.{shape-fits, inside, lies, raises, room_found, none_found, over_of, held_of, step_held, step-twelve, step_over}
+use Rattle.steps.proofs.Writing.{over_of, held_of, step_held, step-twelve, step_over}
+use Rattle.steps.proofs.InHand.{lent, its, held, may_raise, some_room, without_room}
 use Rattle.header.proofs.Places.{open_good, open_known, open_limits, open_spread, full-within}
-use Rattle.bucket.specs.Raise.{RaisesIn}
 use Rattle.bucket.specs.Views.{as_bucket}
-use Rattle.shapes.specs.Shapes.{rows_in}
-use Rattle.model.specs.Calls.{holding}
-use Rattle.model.specs.Sound.{bucket_at, own_counts}
-use Rattle.model.specs.Walls as model
-use Rattle.model.specs.Walls.{parse}
-use Rattle.model.specs.Levels.{crowded}
-use lib.ListN.{set}
 use lib.Dec.{T}
 use native.Mathlib.Omega.{arith}
 use Prim.Native.Nat.{ℕ}
 use mathlib.Core.List.{List}
-use mathlib.Core.Bool.{not}
-use mathlib.Core.Path.{◌≡◌, sym, ap, ◌∙◌, subst}
+use mathlib.Core.Path.{sym, ap, ◌∙◌, subst}
 use Rattle.steps.proofs.step_carry.Goals as goal
 
 pub bucket_at-start-requires : goal.bucket_at-start-requires
@@ -29,44 +21,17 @@ of-shape-requires c =
     (k.shape_low, k.shape_high)
 
 pub take-bucket-requires : goal.take-bucket-requires
-take-bucket-requires c =
-    let r = c.requires.0 in
-    let es = c.of-shape.ensures in
-    let q = c.bucket_at-start.ensures in
-    ((shape-fits _ _ _ _ _ r _ es).valid, inside _ _ _ _ _ r _ es _ q)
+take-bucket-requires c = lent c.requires.0 c.of-shape.ensures c.bucket_at-start.ensures
 
 pub room-requires : goal.room-requires
-room-requires c =
-    let ws = c.args.words.now in
-    let i = c.args.i in
-    let a = c.args.at in
-    let n = c.args.count in
-    let r = c.requires.0 in
-    let z = c.of-shape.result in
-    let es = c.of-shape.ensures in
-    let q = c.bucket_at-start.ensures in
-    let k : as_bucket z c.take-bucket.result ≡ bucket_at (parse ws) i = c.take-bucket.ensures ∙ lies _ _ _ _ _ r _ es _ q in
-    subst (λ (b : model.Bucket). RaisesIn z b a n) (sym k) (raises _ _ _ _ _ r _ es c.requires.1)
+room-requires c = may_raise c.requires.0 c.of-shape.ensures c.bucket_at-start.ensures c.take-bucket.result c.take-bucket.ensures c.requires.1
 
 pub raise-requires : goal.raise-requires
 raise-requires c =
-    let ws = c.args.words.now in
-    let i = c.args.i in
-    let a = c.args.at in
-    let n = c.args.count in
-    let r = c.requires.0 in
-    let z = c.of-shape.result in
-    let es = c.of-shape.ensures in
-    let q = c.bucket_at-start.ensures in
-    let k : as_bucket z c.take-bucket.result ≡ bucket_at (parse ws) i = c.take-bucket.ensures ∙ lies _ _ _ _ _ r _ es _ q in
-    (subst (λ (b : model.Bucket). RaisesIn z b a n) (sym k) (raises _ _ _ _ _ r _ es c.requires.1), subst T c.room.ensures (subst T (sym c.if-room.true) tt))
+    (may_raise c.requires.0 c.of-shape.ensures c.bucket_at-start.ensures c.take-bucket.result c.take-bucket.ensures c.requires.1, subst T c.room.ensures (subst T (sym c.if-room.true) tt))
 
 pub store-requires : goal.store-requires
-store-requires c =
-    let r = c.requires.0 in
-    let es = c.of-shape.ensures in
-    let q = c.bucket_at-start.ensures in
-    ((shape-fits _ _ _ _ _ r _ es).valid, inside _ _ _ _ _ r _ es _ q)
+store-requires c = lent c.requires.0 c.of-shape.ensures c.bucket_at-start.ensures
 
 pub put_totals-requires : goal.put_totals-requires
 put_totals-requires c =
@@ -76,33 +41,19 @@ put_totals-requires c =
 
 pub returns-then-room : goal.returns-then-room
 returns-then-room c =
-    let ws = c.args.words.now in
-    let i = c.args.i in
-    let a = c.args.at in
-    let n = c.args.count in
     let r = c.requires.0 in
     let z = c.of-shape.result in
     let es = c.of-shape.ensures in
-    let at = c.bucket_at-start.result in
     let q = c.bucket_at-start.ensures in
-    let k : as_bucket z c.take-bucket.result ≡ bucket_at (parse ws) i = c.take-bucket.ensures ∙ lies _ _ _ _ _ r _ es _ q in
-    ap (λ (x : List ℕ). record { number = 0; value = n; words = x }) c.put_totals.ensures
-    ∙ step_held _ _ _ _ _ r c.args.total (c.slice_known-1.given 0).fits c.store.new.words at (as_bucket z c.raise.result) c.requires.1 (room_found _ _ _ _ _ r _ es c.room.result (c.room.ensures ∙ ap (λ (b : model.Bucket). not (crowded z.width (rows_in z) (set (own_counts z.width (rows_in z) b) a n))) k) c.if-room.true) q
-    (held_of _ _ _ _ _ r _ es (as_bucket z c.raise.result) (c.raise.ensures ∙ ap (λ (b : model.Bucket). holding z.width (rows_in z) (set (own_counts z.width (rows_in z) b) a n)) k)) c.store.ensures
+    let t = c.take-bucket.ensures in
+    ap (λ (x : List ℕ). record { number = 0; value = c.args.count; words = x }) c.put_totals.ensures
+    ∙ step_held _ _ _ _ _ r c.args.total (c.slice_known-1.given 0).fits c.store.new.words c.bucket_at-start.result (as_bucket z c.raise.result) c.requires.1 (some_room r es q _ t c.room.result c.room.ensures c.if-room.true) q
+    (held_of _ _ _ _ _ r _ es (as_bucket z c.raise.result) (held r es q _ t c.raise.ensures)) c.store.ensures
 
 pub returns-then-v : goal.returns-then-v
 returns-then-v c =
-    let ws = c.args.words.now in
-    let v = c.args.v in
-    let i = c.args.i in
-    let a = c.args.at in
-    let n = c.args.count in
     let r = c.requires.0 in
-    let z = c.of-shape.result in
-    let es = c.of-shape.ensures in
-    let q = c.bucket_at-start.ensures in
-    let k : as_bucket z c.take-bucket.result ≡ bucket_at (parse ws) i = c.take-bucket.ensures ∙ lies _ _ _ _ _ r _ es _ q in
-    step-twelve _ _ _ _ _ r c.args.total (c.slice_known-1.given 0).fits c.requires.1 (none_found _ _ _ _ _ r _ es c.room.result (c.room.ensures ∙ ap (λ (b : model.Bucket). not (crowded z.width (rows_in z) (set (own_counts z.width (rows_in z) b) a n))) k) c.if-room.false) c.if-v.true
+    step-twelve _ _ _ _ _ r c.args.total (c.slice_known-1.given 0).fits c.requires.1 (without_room r c.of-shape.ensures c.bucket_at-start.ensures c.take-bucket.result c.take-bucket.ensures c.room.result c.room.ensures c.if-room.false) c.if-v.true
 
 pub overflow-requires : goal.overflow-requires
 overflow-requires c =
@@ -111,11 +62,7 @@ overflow-requires c =
     omega (arith, l.full_most, l.spare_full)
 
 pub store-requires-2 : goal.store-requires-2
-store-requires-2 c =
-    let r = c.requires.0 in
-    let es = c.of-shape.ensures in
-    let q = c.bucket_at-start.ensures in
-    ((shape-fits _ _ _ _ _ r _ es).valid, inside _ _ _ _ _ r _ es _ q)
+store-requires-2 c = lent c.requires.0 c.of-shape.ensures c.bucket_at-start.ensures
 
 pub full_at-requires : goal.full_at-requires
 full_at-requires c =
@@ -140,18 +87,14 @@ put_totals-requires-2 c =
 
 pub returns : goal.returns
 returns c =
-    let ws = c.args.words.now in
     let v = c.args.v in
-    let i = c.args.i in
-    let a = c.args.at in
-    let n = c.args.count in
     let r = c.requires.0 in
     let z = c.of-shape.result in
     let es = c.of-shape.ensures in
-    let at = c.bucket_at-start.result in
     let q = c.bucket_at-start.ensures in
-    let k : as_bucket z c.take-bucket.result ≡ bucket_at (parse ws) i = c.take-bucket.ensures ∙ lies _ _ _ _ _ r _ es _ q in
+    let t = c.take-bucket.ensures in
     let y = c.overflow in
-    ap (λ (x : List ℕ). record { number = 0; value = n; words = x }) c.put_totals-2.ensures
-    ∙ step_over _ _ _ _ _ r c.args.total (c.slice_known-1.given 0).fits c.store-2.new.words c.move_first.new.words at c.full_at.result (as_bucket z y.result) c.requires.1 (none_found _ _ _ _ _ r _ es c.room.result (c.room.ensures ∙ ap (λ (b : model.Bucket). not (crowded z.width (rows_in z) (set (own_counts z.width (rows_in z) b) a n))) k) c.if-room.false) c.if-v.false q
-    (over_of _ _ _ _ _ r _ es c.take-bucket.result y.result v.used k y.ensures.0 y.ensures.1 y.ensures.2 y.ensures.3) c.store-2.ensures c.full_at.ensures c.move_first.ensures
+    ap (λ (x : List ℕ). record { number = 0; value = c.args.count; words = x }) c.put_totals-2.ensures
+    ∙ step_over _ _ _ _ _ r c.args.total (c.slice_known-1.given 0).fits c.store-2.new.words c.move_first.new.words c.bucket_at-start.result c.full_at.result (as_bucket z y.result) c.requires.1
+    (without_room r es q _ t c.room.result c.room.ensures c.if-room.false) c.if-v.false q
+    (over_of _ _ _ _ _ r _ es c.take-bucket.result y.result v.used (its r es q _ t) y.ensures.0 y.ensures.1 y.ensures.2 y.ensures.3) c.store-2.ensures c.full_at.ensures c.move_first.ensures
