@@ -46,6 +46,7 @@ pub enum Refusal {
 }
 
 impl Refusal {
+    // No `From` for `u64`, which would not say what number it is.
     pub fn number(self) -> u64
         ensures { result ≡ number_of self }
     {

@@ -1,4 +1,4 @@
-// A bucket taken out of the words of a wall, and stored there again.
+// A bucket taken out of the words of a wall, and stored there again. Words, offset and shape come apart, for the words are written too.
 ghost use Rattle.std.specs.Prelude.{◌≡◌, ◌+◌, ◌≤◌, length, drop};
 ghost use Rattle.std.proofs.Math.Seq.{paste};
 ghost use Rattle.model.specs.Lists.{splice};

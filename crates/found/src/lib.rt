@@ -1,4 +1,5 @@
-// Bucket i of a wall whose header is good, judged and read where it lies.
+// Bucket i of a wall whose header is good, judged and read where it lies. A bucket and a place in it stay numbers: who stands above counts them up,
+// or takes them from a slot.
 #![tactic(auto)]
 
 ghost use Rattle.std.specs.Prelude.{◌≡◌, ◌/◌, ◌≤◌, ◌<◌, ◌^◌, T, get_or};

@@ -12,6 +12,8 @@ ghost use Rattle.fresh.specs.Raise.{raise_sized};
 use answer::Refusal;
 use layout::Wall;
 
+// Words and header come apart here: the header is not in the words yet.
+
 // The fresh wall of a header, whatever stood in the words. `raise_sized` and `close` show what it asks.
 fn write(words: &mut [u64], v: Wall)
     requires { Known v × (v.full ≤ 4096) × (v.spread < 2 ^ 32) × (length words.old ≡ wall_size (header_of v)) }
@@ -50,7 +52,7 @@ fn raise_sized(words: &mut [u64], v: Wall) -> Result<u64, Refusal>
     Ok(0)
 }
 
-// A fresh wall in the words lent.
+// A fresh wall in the words lent. The arguments are the C call's and become a `Wall` at once.
 pub fn raise(
     words: &mut [u64],
     shape: u64,

@@ -1,4 +1,5 @@
-// The upper levels of a bucket as one value, under a counter that grows: that there is room for it was found before.
+// The upper levels of a bucket as one value, under a counter that grows: that there is room for it was found before. Its bounds of an entry stand
+// in no type, as those of `packed`.
 #![tactic(auto)]
 
 ghost use Rattle.std.specs.Prelude.{◌≡◌, ◌+◌, ◌-◌, ◌*◌, ◌/◌, ◌%◌, ◌≤◌, ◌<◌, ◌^◌, get_or, set};

@@ -41,7 +41,7 @@ fn fields(words: &[u64]) -> Wall
 }
 
 // What the rest asks of a header is shown by `open`, and by `raise` after its refusals 1, 2 and 3. It stands in no type: `fits` and
-// `raise_sized` ask it before a header is opened, a step of one whose words it writes, and a struct around `Wall` would stand before each field.
+// `raise_sized` ask it before a wall is opened, a step while it writes the words; with a struct around `Wall`, each use of a field would go through it.
 
 // h, the number of buckets
 pub fn buckets(v: Wall) -> u64

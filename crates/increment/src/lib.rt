@@ -13,6 +13,8 @@ use answer::Refusal;
 use header::Opened;
 use layout::Wall;
 
+// Words and header come apart here, and are one again where they are read: no `Opened` can be held while its words are written.
+
 // One more at a place of a bucket that has nothing but marks in its packed word. `increment` shows what this asks.
 fn one_more_plain(words: &mut [u64], v: Wall, i: u64, at: u64) -> Result<u64, Refusal>
     requires { Open words.old v × (i < buckets_in (header_of v)) × (at < 64) × ((bucket_at (parse words.old) i).packed / 2 ^ 40 ≤ 0) }

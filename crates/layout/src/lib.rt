@@ -67,6 +67,7 @@ impl Wall {
         full <= Wall::MAX_FULL
     }
 
+    // No `Default`: zeros, which a wall's step fills.
     pub fn empty_bucket() -> Bucket
         ensures { result ≡ record { first = replicate 16 0; marks = 0; upper = record { words = replicate 4 0; packed = 0 } } }
     {

@@ -1,5 +1,5 @@
 // A word of packed entries of w bits each, entry 0 lowest. A mark is an entry of one bit. Places and widths lie within a word: who
-// knows the shape of a bucket shows it.
+// knows the shape of a bucket shows it. These bounds stand in no type, here and above: one for each would be made at each call.
 #![tactic(auto)]
 
 ghost use Rattle.std.specs.Prelude.{◌≡◌, ◌+◌, ◌-◌, ◌*◌, ◌/◌, ◌%◌, ◌≤◌, ◌<◌, ◌^◌};

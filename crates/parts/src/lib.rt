@@ -13,6 +13,8 @@ ghost use Rattle.bucket.specs.Raise.{RaisesIn, Stays};
 use layout::Wall;
 use shapes::Shape;
 
+// Words, offset and shape come apart, for the words are written.
+
 // The step of a count whose part in level 1 alone changes: the bucket is taken out, stepped and stored. `step_first` shows what these ask.
 fn step_part(words: &mut [u64], at: usize, shape: Shape, place: u64, value: u64)
     requires { (at + bucket_size shape.width (rows_in shape) ≤ length words.old) × RaisesIn shape (bucket_in shape words.old at) place value × Stays shape (bucket_in shape words.old at) place value }

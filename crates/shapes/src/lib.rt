@@ -1,4 +1,5 @@
-// The shapes: document 01's table, and a shape in few words.
+// The shapes: document 01's table, and a shape in few words. Numbers from 3 to 5, as the document has them, and levels as bytes of one number:
+// docs/PROMISES.md cites both.
 #![tactic(auto)]
 
 ghost use Rattle.std.specs.Prelude.{◌≡◌, [], ℕ, ◌+◌, ◌-◌, ◌*◌, ◌/◌, ◌%◌, ◌^◌, ◌≤◌, ◌<◌, T, get_or};

@@ -1,4 +1,4 @@
-// The sum of the 64 entries of level 1, where they lie in the words of a wall.
+// The sum of the 64 entries of level 1, where they lie in the words of a wall. The bounds of a width stand in no type, which each call would make.
 #![tactic(auto)]
 
 ghost use Rattle.std.specs.Prelude.{◌≡◌, ◌+◌, ◌-◌, ◌*◌, ◌/◌, ◌≤◌, ◌<◌, ◌^◌, length, drop};

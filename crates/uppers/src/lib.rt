@@ -33,7 +33,7 @@ fn judge_level(cells: u64, marks: u64, w: u64, n: u64) -> Option<u64>
     Some(cells - above * (p - 1))
 }
 
-// Whether words are zero, as those of levels are that no counter is in. It ends with the first that is not: most often there are two.
+// Whether words are zero, as those of levels are that no counter is in: two to four of them, and `zeros::zero_from` has all to the end.
 fn all_zero(words: &[u64]) -> bool
     ensures { result ≡ list_all (λ x. x == 0) words.now }
 {

@@ -19,7 +19,7 @@ struct Tally {
     again: u64,
 }
 
-// A bit for each full-size number: the number's is set, and 1 given if it was before. `weigh` shows what this asks.
+// A bit for each full-size number, in 64 words, fixed memory: the number's is set, and 1 given if it was before. `weigh` shows what this asks.
 fn mark(seen: &mut [u64; 64], number: u64) -> u64
     requires { (number < 4096) × Bitmap seen.old }
     ensures { (result ≡ seen_at seen.old number) × (result < 2) × Noted seen.old seen.new number }
