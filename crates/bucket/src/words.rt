@@ -8,7 +8,6 @@ ghost use Rattle.shapes.specs.Shapes.{rows_in, Valid};
 ghost use Rattle.bucket.specs.Views.{bucket_in, as_bucket};
 
 use super::Bucket;
-use growth::Upper;
 use shapes::Shape;
 
 // n words of `from`, from start on, into `to` from at on. `take` and `store` show that both have as many. With std's `copy_from_slice` an increment
@@ -24,26 +23,25 @@ fn copy(to: &mut [u64], at: usize, from: &[u64], start: usize, n: usize)
 
 impl Bucket {
     // Filled from the words at an offset, whatever it held. Who read the wall's header knows that the shape is valid and that the words are there.
-    pub fn take(self, words: &[u64], at: usize, shape: Shape) -> Self
+    pub fn take(mut self, words: &[u64], at: usize, shape: Shape) -> Self
         requires { Valid shape × (at + bucket_size shape.width (rows_in shape) ≤ length words.now) }
         ensures { as_bucket shape result ≡ bucket_in shape words.now at }
     {
         let width = shape.width as usize;
         let uppers = shape.uppers as usize;
-        let next = at + width;
-        // A part lent out of a field comes back unknown to the proof, so the arrays are taken out first.
+        // A part lent out of a field comes back unknown to the proof, so the arrays are taken out and put back.
         let mut first = self.first;
         copy(&mut first[..], 0, words, at, width);
-        let mut cells = self.upper.words;
+        self.first = first;
+        let next = at + width;
+        self.marks = words[next];
+        let mut upper = self.upper;
+        let mut cells = upper.words;
         copy(&mut cells[..], 0, words, next + 1, uppers);
-        Bucket {
-            first,
-            marks: words[next],
-            upper: Upper {
-                words: cells,
-                packed: words[next + 1 + uppers],
-            },
-        }
+        upper.words = cells;
+        upper.packed = words[next + 1 + uppers];
+        self.upper = upper;
+        self
     }
 
     // Its caller took it out at the same offset.
@@ -53,10 +51,13 @@ impl Bucket {
     {
         let width = shape.width as usize;
         let uppers = shape.uppers as usize;
+        let first = self.first;
+        copy(words, at, &first[..], 0, width);
         let next = at + width;
-        copy(words, at, &self.first[..], 0, width);
         words[next] = self.marks;
-        copy(words, next + 1, &self.upper.words[..], 0, uppers);
-        words[next + 1 + uppers] = self.upper.packed;
+        let upper = self.upper;
+        let cells = upper.words;
+        copy(words, next + 1, &cells[..], 0, uppers);
+        words[next + 1 + uppers] = upper.packed;
     }
 }

@@ -11,8 +11,8 @@ copy-requires-2 c =
     let four : length c.args.self.upper.words ≡ 4 = search rules in
     (omega arith, omega arith)
 
-pub overflow_add-result-2 : goal.overflow_add-result-2
-overflow_add-result-2 c = omega (arith, room c.args.shape c.args.at _ c.requires.0 c.requires.1)
+pub overflow_add-upper-2 : goal.overflow_add-upper-2
+overflow_add-upper-2 c = omega (arith, room c.args.shape c.args.at _ c.requires.0 c.requires.1)
 
 pub offset_bounds-words-next-2 : goal.offset_bounds-words-next-2
 offset_bounds-words-next-2 c = omega (arith, room c.args.shape c.args.at _ c.requires.0 c.requires.1)
