@@ -1,4 +1,5 @@
-// A full-size bucket where it lies in the words of a wall: its moved flags at the offset `at`, and a count for each place after them.
+// A full-size bucket where it lies in the words of a wall: its moved flags at the offset `at`, and a count for each place after them. The offset comes
+// with all the words, for the clauses say what all of them become.
 #![tactic(auto)]
 
 ghost use Rattle.std.specs.Prelude.{◌≡◌, ◌+◌, ◌≤◌, ◌<◌, length};
