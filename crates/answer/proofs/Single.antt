@@ -67,3 +67,17 @@ checked (Err fault.UnsoundWall) = refl
 
 pub one_check : (r s : Result ⊤ Fault) → checked_of r ≡ checked_of s → r ≡ s
 one_check r s e = sym (checked r) ∙ ap (λ (a : Answer). check_of a.number a.value) e ∙ checked s
+
+-- ---- so two results that meet one contract of a call are equal, as two answers are
+
+pub same_reply : (call : Reply) (r s : Result ℕ Refusal) → reply_of (answer_of r) ≡ call → reply_of (answer_of s) ≡ call → r ≡ s
+same_reply call r s e f = one_result r s (one_reply call (answer_of r) (answer_of s) e f)
+
+pub same_outcome : (call : Outcome) (r s : Result ℕ Refusal) (ws us : List ℕ) → outcome_of (answer_of r) ws ≡ call → outcome_of (answer_of s) us ≡ call → (r ≡ s) × (ws ≡ us)
+same_outcome call r s ws us e f = let o = one_outcome call (answer_of r) (answer_of s) ws us e f in (one_result r s o.0, o.1)
+
+pub same_listing : (call : Listing) (r s : Result ℕ Refusal) (ws us list rest : List ℕ) → listing_of (answer_of r) ws list ≡ call → listing_of (answer_of s) us rest ≡ call → (r ≡ s) × (ws ≡ us) × (list ≡ rest)
+same_listing call r s ws us list rest e f = let o = one_listing call (answer_of r) (answer_of s) ws us list rest e f in (one_result r s o.0, o.1, o.2)
+
+pub same_check : (call : Outcome) (r s : Result ⊤ Fault) (ws us : List ℕ) → outcome_of (checked_of r) ws ≡ call → outcome_of (checked_of s) us ≡ call → (r ≡ s) × (ws ≡ us)
+same_check call r s ws us e f = let o = one_outcome call (checked_of r) (checked_of s) ws us e f in (one_check r s o.0, o.1)

@@ -1,5 +1,5 @@
 // Bucket i of a wall whose header is good, judged and read where it lies. A bucket and a place in it stay numbers: who stands above counts them up,
-// or takes them from a slot.
+// or takes them from a slot. So does a packed word beside its bucket, which its callers have read before.
 #![tactic(auto)]
 
 ghost use Rattle.std.specs.Prelude.{◌≡◌, ◌/◌, ◌≤◌, ◌<◌, ◌^◌, T, get_or};

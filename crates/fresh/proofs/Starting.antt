@@ -142,7 +142,7 @@ pub close_7 : (ws : List ℕ) → T (not (good ws)) → record { number = 7; val
 unfolding close
 close_7 ws t = sym (ap (λ n. outcome n 0 (fresh (read_header ws)) ws) (first-met [] (refuse 7 (not (good ws))) [] tt t))
 
-close_0 : (ws : List ℕ) → T (good ws) → record { number = 0; value = 0; words = fresh (read_header ws) } ≡ close ws
+pub close_0 : (ws : List ℕ) → T (good ws) → record { number = 0; value = 0; words = fresh (read_header ws) } ≡ close ws
 unfolding close
 close_0 ws g = sym (answer_done 0 (fresh (read_header ws)) ws (first_met (close_refusals ws)) (first_clear (close_refusals ws) (to_not-not (good ws) g, tt)))
 

@@ -105,7 +105,7 @@ module _ (os : List ℕ) (f : Full) where
 
 -- ---- the places of a full-size bucket, counted one by one
 
-no_zeros : (f : Full) → 0 ≡ zero_places f 0
+pub no_zeros : (f : Full) → 0 ≡ zero_places f 0
 unfolding zero_places
 no_zeros f = refl
 

@@ -4,7 +4,7 @@ ghost use Rattle.std.specs.Prelude.{◌≡◌, ℕ, ◌^◌, get_or, ◌+◌, �
 ghost use Rattle.std.specs.Coded.{Coded-set};
 ghost use Rattle.model.specs.Walls.{buckets_in, bucket_length, wall_size, limit_fits, full_fits, good};
 ghost use Rattle.layout.specs.Views.{header_of};
-ghost use Rattle.header.specs.Headers.{Known, Marked, fields_of, opened_of};
+ghost use Rattle.header.specs.Headers.{Known, Marked, Open, fields_of, opened_of};
 
 use layout::Wall;
 
@@ -16,6 +16,17 @@ pub struct Opened<'a> {
     pub ghost fields: { header ≡ fields_of words.now } by { Coded-set header-code header (fields_of words.now) },
     pub ghost good: { T (good words.now) },
     pub ghost fit: { (i : ℕ) → get_or words.now i 0 < 2 ^ 64 },
+}
+
+impl<'a> Opened<'a> {
+    // Of words whose header was opened before. That the words fit is shown of the slice lent here: of one in a struct a proof knows its length only.
+    pub fn of(words: &'a [u64], header: Wall) -> Opened<'a>
+        requires { Open words.now header }
+        ensures words { result.words.now ≡ words.now }
+        ensures header { result.header ≡ header }
+    {
+        Opened { words, header }
+    }
 }
 
 // The letters B, W, L and version 1.
@@ -79,7 +90,9 @@ pub fn full_fits(v: Wall) -> bool
     v.full <= buckets(v) && Wall::known_full(v.full)
 }
 
-// Shape, width and bits are judged before anything is computed with them.
+// Shape, width and bits are judged before anything is computed with them. Within each call that opens a wall, so that no header is copied, and words
+// that are no wall are refused in a few instructions.
+#[inline(always)]
 pub fn open(words: &[u64]) -> Option<Opened<'_>>
     ensures header { option_map (λ o. o.header) result ≡ opened_of words.now }
     ensures words { IfSome result (λ o. o.words.now ≡ words.now) }

@@ -31,7 +31,7 @@ packed (a ∷ b ∷ c ∷ d ∷ e ∷ f ∷ g ∷ []) l = absurd (omega arith)
 packed (a ∷ b ∷ c ∷ d ∷ e ∷ f ∷ g ∷ h ∷ i ∷ s) l = absurd (omega arith)
 
 -- word n is in the image where n is below the number of whole words
-inside : (s : List ℕ) (n : ℕ) → n < length s / 8 → image_call s n ≡ record { number = 0; value = pack 8 (take 8 (drop (8 * n) s)) }
+pub inside : (s : List ℕ) (n : ℕ) → n < length s / 8 → image_call s n ≡ record { number = 0; value = pack 8 (take 8 (drop (8 * n) s)) }
 unfolding image_call
 inside s n h = rw (le-ltb (length s) (8 * n + 8) (omega arith))
 

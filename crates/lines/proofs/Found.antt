@@ -10,7 +10,7 @@ use Rattle.lines.specs.Transcript.{lines_of, in_front, is_digit, is_flow, value_
 -- ---- the first line
 
 -- how long it is
-abbrev line_end : List ℕ → ℕ
+abbrev pub line_end : List ℕ → ℕ
 line_end s = position_or_len (λ c. eqb c 10) s
 
 -- b says whether c is a newline, and k where the first newline of s stands
@@ -23,7 +23,7 @@ unfolding lines_of
 in-front c [] = refl
 in-front c (d ∷ s) = ap (in_front c) (by-newline d s (line_end s) (eqb d 10) (in-front d s))
 
-lines_cut : (s : List ℕ) → 0 < length s → lines_of s ≡ take (line_end s) s ∷ lines_of (drop (line_end s + 1) s)
+pub lines_cut : (s : List ℕ) → 0 < length s → lines_of s ≡ take (line_end s) s ∷ lines_of (drop (line_end s + 1) s)
 unfolding lines_of
 lines_cut [] h = absurd (omega arith)
 lines_cut (c ∷ s) h = by-newline c s (line_end s) (eqb c 10) (in-front c s)
@@ -34,7 +34,7 @@ lines_none [] h = refl
 lines_none (c ∷ s) h = absurd (omega arith)
 
 -- n bytes stand before the first newline, or before the end
-ends : (s : List ℕ) (n : ℕ) → n ≤ length s → AllWithin (λ c. c ≢ 10) s 0 n → (n < length s → HoldsAt (λ c. c ≡ 10) s n) → line_end s ≡ n
+pub ends : (s : List ℕ) (n : ℕ) → n ≤ length s → AllWithin (λ c. c ≢ 10) s 0 n → (n < length s → HoldsAt (λ c. c ≡ 10) s n) → line_end s ≡ n
 ends s n h b f = position_or_len_is (λ c. eqb c 10) s n 0 h (λ k l. grind (arith, b k 0 (omega arith) l)) (λ l. grind (arith, f l 0))
 
 -- the first newline ends the first line

@@ -1,4 +1,4 @@
-ghost use Rattle.std.specs.Prelude.{ℕ, ◌+◌, ◌≤◌, ◌<◌, ◌^◌, get_or, length};
+ghost use Rattle.std.specs.Prelude.{ℕ, ◌≡◌, ◌+◌, ◌≤◌, ◌<◌, ◌^◌, get_or, length};
 ghost use Rattle.uppers.specs.Uppers.{Ahead};
 ghost use Rattle.plain.specs.Ahead.{Ahead-prop};
 
@@ -17,4 +17,16 @@ pub struct Site<'a> {
     pub ghost narrow: { shape.width ≤ 16 },
     pub ghost fit: { (i : ℕ) → get_or words.now i 0 < 2 ^ 64 },
     pub ghost there: { at + shape.width + 1 + shape.uppers < length words.now },
+}
+
+impl<'a> Site<'a> {
+    // Who read the wall's header knows what this asks. That the words fit is shown of the slice lent here: of one in a struct a proof knows its length only.
+    pub fn of(words: &'a [u64], at: usize, shape: Shape) -> Site<'a>
+        requires { Ahead shape.uppers shape.entries shape.widths shape.width × (1 ≤ shape.uppers) × (shape.uppers ≤ 4) × (1 ≤ shape.width) × (shape.width ≤ 16) × (at + shape.width + 1 + shape.uppers < length words.now) }
+        ensures words { result.words.now ≡ words.now }
+        ensures at { result.at ≡ at }
+        ensures shape { result.shape ≡ shape }
+    {
+        Site { words, at, shape }
+    }
 }

@@ -42,7 +42,7 @@ fn all_zero(words: &[u64]) -> bool
 
 // The upper levels, whose words begin at `first`, under the marks m1 of level 1; g has their own marks.
 // Who read the wall's header knows that the shape is valid and that the words are there. These stand in no type: the clause speaks of the
-// weight from which the walk begins, which `reads` and `rooms` ask of another, and holds for any marks.
+// weight from which the walk begins, which `reads::read` and `rooms` ask of another, and holds for any marks.
 pub fn judge(words: &[u64], first: usize, m1: u64, g: u64, shape: Shape) -> Option<u64>
     requires { Ahead shape.uppers shape.entries shape.widths shape.width × (1 ≤ shape.uppers) × (shape.uppers ≤ 4) × (first + shape.uppers ≤ length words.now) }
     ensures { result ≡ judged shape.uppers words.now first g shape.entries shape.widths (ones m1) shape.width 0 }
