@@ -35,11 +35,11 @@ pub inside : (s : List ℕ) (n : ℕ) → n < length s / 8 → image_call s n �
 unfolding image_call
 inside s n h = rw (le-ltb (length s) (8 * n + 8) (omega arith))
 
--- r is the number of chunk n
-pub read : (s d : List ℕ) (n r : ℕ) → n < length s / 8 → r ≡ from_le_bytes w64 (get_or (first_chunks 8 (length s / 8) s) n d)
+-- r is the number of chunk n of bytes that are those of the image
+pub read : (s t d : List ℕ) (n r : ℕ) → t ≡ s → n < length s / 8 → r ≡ from_le_bytes w64 (get_or (first_chunks 8 (length t / 8) t) n d)
     → record { number = 0; value = r } ≡ image_call s n
-read s d n r h e =
-    let x = chunk-at d (length s / 8) n s h in
+read s t d n r same h e =
+    let x = ap (λ u. get_or (first_chunks 8 (length u / 8) u) n d) same ∙ chunk-at d (length s / 8) n s h in
     let l : length (take 8 (drop (8 * n) s)) ≡ 8 = length-take-le 8 (drop (8 * n) s) (omega (arith, length-drop (8 * n) s)) in
     ap (λ v. record { number = 0; value = v }) (e ∙ ap (from_le_bytes w64) x ∙ packed (take 8 (drop (8 * n) s)) l) ∙ sym (inside s n h)
 

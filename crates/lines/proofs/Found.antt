@@ -37,10 +37,10 @@ lines_none (c ∷ s) h = absurd (omega arith)
 pub ends : (s : List ℕ) (n : ℕ) → n ≤ length s → AllWithin (λ c. c ≢ 10) s 0 n → (n < length s → HoldsAt (λ c. c ≡ 10) s n) → line_end s ≡ n
 ends s n h b f = position_or_len_is (λ c. eqb c 10) s n 0 h (λ k l. grind (arith, b k 0 (omega arith) l)) (λ l. grind (arith, f l 0))
 
--- the first newline ends the first line
-pub at_newline : (s : List ℕ) (n : ℕ) → (n < length s) × HoldsAt (λ c. c ≡ 10) s n × AllWithin (λ c. c ≢ 10) s 0 n → lines_of s ≡ take n s ∷ lines_of (take (length s - (n + 1)) (drop (n + 1) s))
-at_newline s n (h, f, b) =
-    rw (take_all (length s - (n + 1)) (drop (n + 1) s) (simp length-drop (omega arith)))
+-- the first newline ends the first line, and the rest is from k on, one byte behind it
+pub at_newline : (s : List ℕ) (n k : ℕ) → (n < length s) × HoldsAt (λ c. c ≡ 10) s n × AllWithin (λ c. c ≢ 10) s 0 n → k ≡ n + 1 → lines_of s ≡ take n s ∷ lines_of (take (length s - k) (drop k s))
+at_newline s n k (h, f, b) e =
+    rw (take_all (length s - k) (drop k s) (simp length-drop (omega arith)), e)
     (rw (ends s n (omega arith) b (λ _. f)) at (lines_cut s (omega arith)))
 
 -- without one all is the first line, and the last
