@@ -93,8 +93,7 @@ fn rest_sound(wall: &Opened<'_>, t: Tally) -> bool
     fulls_zero(wall)
 }
 
-// The whole wall. Within the calls that make the check, so that its result is not copied.
-#[inline(always)]
+// The whole wall.
 pub fn check(words: &[u64]) -> Result<(), Fault>
     ensures { outcome_of (checked_of result) words.now ≡ model.check words.now }
 {
