@@ -11,7 +11,7 @@ use super::Bucket;
 use shapes::Shape;
 
 // n words of `from`, from start on, into `to` from at on. `take` and `store` show that both have as many. With std's `copy_from_slice` an increment
-// takes 32 instructions more on a light wall.
+// takes more instructions: docs/DESIGN-PASS.md.
 fn copy(to: &mut [u64], at: usize, from: &[u64], start: usize, n: usize)
     requires { (at + n ≤ length to.old) × (start + n ≤ length from.now) }
     ensures { to.new ≡ paste to.old at (drop start from.now) n }

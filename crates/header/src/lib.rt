@@ -19,7 +19,7 @@ pub struct Opened<'a> {
 }
 
 impl<'a> Opened<'a> {
-    // Of words whose header was opened before. That the words fit is shown of the slice lent here: of one in a struct a proof knows its length only.
+    // Of words whose header was opened before. That they fit is shown of the slice that is lent here: docs/DECISIONS.md.
     pub fn of(words: &'a [u64], header: Wall) -> Opened<'a>
         requires { Open words.now header }
         ensures words { result.words.now ≡ words.now }
@@ -90,8 +90,8 @@ pub fn full_fits(v: Wall) -> bool
     v.full <= buckets(v) && Wall::known_full(v.full)
 }
 
-// Shape, width and bits are judged before anything is computed with them. Within each call that opens a wall, so that no header is copied, and words
-// that are no wall are refused in a few instructions.
+// Shape, width and bits are judged before anything is computed with them. Inlined into each call, so that no header is copied and words that are no
+// wall are refused in a few instructions.
 #[inline(always)]
 pub fn open(words: &[u64]) -> Option<Opened<'_>>
     ensures header { option_map (λ o. o.header) result ≡ opened_of words.now }

@@ -20,7 +20,7 @@ pub struct Site<'a> {
 }
 
 impl<'a> Site<'a> {
-    // Who read the wall's header knows what this asks. That the words fit is shown of the slice lent here: of one in a struct a proof knows its length only.
+    // Who read the wall's header knows what this asks. That the words fit is shown of the slice that is lent here: docs/DECISIONS.md.
     pub fn of(words: &'a [u64], at: usize, shape: Shape) -> Site<'a>
         requires { Ahead shape.uppers shape.entries shape.widths shape.width × (1 ≤ shape.uppers) × (shape.uppers ≤ 4) × (1 ≤ shape.width) × (shape.width ≤ 16) × (at + shape.width + 1 + shape.uppers < length words.now) }
         ensures words { result.words.now ≡ words.now }

@@ -2,7 +2,7 @@
 use mathlib.Core.Path.{◌≡◌, refl, sym, ap, ◌∙◌, subst}
 use mathlib.Core.Bool.{Bool}
 use mathlib.Core.List.{List, [], ◌∷◌, map}
-use Prim.Native.Nat.{ℕ, zero, suc, ◌+◌, ◌-◌, ◌*◌, ◌≤◌}
+use Prim.Native.Nat.{ℕ, zero, suc, ◌+◌, ◌-◌, ◌≤◌}
 use native.Mathlib.Omega.{arith}
 use lib.Dec.{T, leb, leb→le, le→leb}
 use lib.ListN.{length}
@@ -11,7 +11,7 @@ use Rattle.model.specs.Shapes.{Row, rows_of, known_shape, falling, mark_widths, 
 use Rattle.model.proofs.Tools.{AllT, all_tests, and_tests, tests_and}
 use Rattle.model.proofs.Headers.{table_valid}
 use Rattle.shapes.specs.declared.Shape.{Shape}
-use Rattle.shapes.specs.Shapes.{entry_bytes, rows_from, rows_in, shape_of, table_entries, table_width, width_bytes, Valid}
+use Rattle.shapes.specs.Shapes.{rows_from, rows_in, shape_of, Valid}
 
 -- ---- the table
 
@@ -40,25 +40,6 @@ table_shape p w h k l m =
       rows = subst (λ rs. T (valid_rows rs)) (sym (table_rows p w h k)) (table_valid p known);
       width = tests_and (leb 1 w) (leb w 16) (le→leb 1 w l) (le→leb w 16 m);
     }
-
--- a row as bytes
-pub entries-bytes : (p : ℕ) → 3 ≤ p → p ≤ 5 → table_entries p 0 + table_entries p 1 * 256 + table_entries p 2 * 65536 + table_entries p 3 * 16777216 ≡ entry_bytes p
-entries-bytes zero h k = absurd (omega arith)
-entries-bytes (suc zero) h k = absurd (omega arith)
-entries-bytes (suc (suc zero)) h k = absurd (omega arith)
-entries-bytes (suc (suc (suc zero))) h k = refl
-entries-bytes (suc (suc (suc (suc zero)))) h k = refl
-entries-bytes (suc (suc (suc (suc (suc zero))))) h k = refl
-entries-bytes (suc (suc (suc (suc (suc (suc n)))))) h k = absurd (omega arith)
-
-pub widths_bytes : (p : ℕ) → 3 ≤ p → p ≤ 5 → table_width p 0 + table_width p 1 * 256 + table_width p 2 * 65536 + table_width p 3 * 16777216 ≡ width_bytes p
-widths_bytes zero h k = absurd (omega arith)
-widths_bytes (suc zero) h k = absurd (omega arith)
-widths_bytes (suc (suc zero)) h k = absurd (omega arith)
-widths_bytes (suc (suc (suc zero))) h k = refl
-widths_bytes (suc (suc (suc (suc zero)))) h k = refl
-widths_bytes (suc (suc (suc (suc (suc zero))))) h k = refl
-widths_bytes (suc (suc (suc (suc (suc (suc n)))))) h k = absurd (omega arith)
 
 -- L by shape
 pub counter_17 : (p w : ℕ) → p ≡ 3 → w + 17 ≡ counter_bits w (rows_of p)
