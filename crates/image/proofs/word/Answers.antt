@@ -4,6 +4,7 @@ use Rattle.std.proofs.Math.Seq.{take_all}
 use Rattle.image.proofs.Laws.{read, outside}
 use Rattle.image.proofs.word.Goals as goal
 
+-- `take_all` is for bytes taken from a place on: an edit of that place is refused for its value
 pub returns-then-n-words : goal.returns-then-n-words
 returns-then-n-words c = search (rules, read, take_all)
 
